@@ -1,0 +1,6 @@
+pub mod Check
+pub mod File
+pub mod Parsed
+pub mod Refusals
+pub mod Wires
+pub mod Wiring

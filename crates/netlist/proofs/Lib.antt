@@ -1,0 +1,3 @@
+pub mod Greatest
+pub mod Published
+pub mod Tallies

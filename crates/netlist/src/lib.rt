@@ -1,0 +1,4 @@
+// Netlists told by questions, rules for sharing registers, and the tally of the registers that a netlist needs.
+pub mod ask;
+pub mod rule;
+pub mod registers;
