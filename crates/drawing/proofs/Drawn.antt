@@ -10,14 +10,15 @@ use lib.ListN.{length, getD, drop, take}
 use Rattle.std.proofs.shelf.Lists.{getD-drop, getD-past, getD-take, length-take-le}
 use Rattle.std.proofs.shelf.Tests.{cases-lt, lt-ltb, le-ltb, cond-true, cond-false}
 use Rattle.netlist.specs.Net.{Net}
-use Rattle.drawing.specs.declared.fault.CheckFault.{CheckFault}
-use Rattle.drawing.specs.declared.fault.CheckFault.the-variants.{ShortFile, TooLarge, WrongLength, NoGate, CountTooLarge, FreeRound}
+use Rattle.wiring.specs.declared.fault.CheckFault.{CheckFault}
+use Rattle.wiring.specs.declared.fault.CheckFault.the-variants.{ShortFile, TooLarge, WrongLength, NoGate, CountTooLarge, FreeRound}
 use Rattle.drawing.specs.declared.file.Sizes.{Sizes}
-use Rattle.drawing.specs.declared.wire.Wire.{Wire}
-use Rattle.drawing.specs.Check.{Fits, Wires-pass, Wires-fail}
+use Rattle.wiring.specs.declared.wire.Wire.{Wire}
+use Rattle.wiring.specs.Check.{Fits, Wires-pass, Wires-fail}
 use Rattle.drawing.specs.File.{word, gates-in, pins-in, wires-in, wire-in, wire-or-none, drawn, Sized, Accepts, Refuses}
 use Rattle.drawing.specs.Parsed.{Sizes-of, wire-behind}
-use Rattle.drawing.specs.Wires.{no-wire, wired}
+use Rattle.wiring.specs.List.{Passes, Fails}
+use Rattle.wiring.specs.Wires.{no-wire, wired}
 
 word-behind : (b : List ℕ) (i j : ℕ) → j ≡ 6 + i → word (drop 6 b) i ≡ word b j
 word-behind b i j e =
@@ -48,14 +49,6 @@ module _ (b : List ℕ) (ws : List Wire) (long : length ws ≡ wires-in b) (read
     count = λ k. at k i .count;
   }
 
-pub fail-refuses : (b : List ℕ) (f : CheckFault) → Sized b → Wires-fail 255 (drawn b) f → Refuses b f
-fail-refuses b ShortFile s w = absurd w
-fail-refuses b TooLarge s w = absurd w
-fail-refuses b WrongLength s w = absurd w
-fail-refuses b (NoGate k) s w = (s, w)
-fail-refuses b (CountTooLarge k) s w = (s, w)
-fail-refuses b (FreeRound k) s w = (s, w)
-
 -- a list filled from the bytes behind the sizes holds the wires of b
 pub read-are : (b : List ℕ) (s : Sizes) → Sizes-of b s → (rest : List ℕ) → rest ≡ drop 6 b → (list : List Wire) → ((k : ℕ) → k < s .wires → getD list k no-wire ≡ wire-behind rest (s .wires) k) → (k : ℕ) → k < wires-in b → getD list k no-wire ≡ wire-in b k
 read-are b s of rest behind list filled k l = filled k (omega (arith, of .wires-are)) ∙ ap₂ (λ r w. wire-behind r w k) behind (of .wires-are) ∙ behind-is b k
@@ -76,12 +69,6 @@ module _ (b : List ℕ) (s : Sizes) (of : Sizes-of b s) (list : List Wire) (room
       ap₂ (λ g p. wired g (λ j. ltb j p) front) (of .gates-are) (of .pins-are)
       ∙ drawn-is b front front-long (λ k l. getD-take (s .wires - 0) list k no-wire (omega (arith, of .wires-are)) ∙ read k l)
 
-  pub front-passes : ((pinned : ℕ → Bool) → Wires-pass 255 (wired (s .gates) pinned front)) → Accepts b
-  front-passes told = record { sized = of .sized; pass = subst (Wires-pass 255) front-is (told pins) }
-
-  pub front-fails : (f : CheckFault) → ((pinned : ℕ → Bool) → Wires-fail 255 (wired (s .gates) pinned front) f) → Refuses b f
-  front-fails f told = fail-refuses b f (of .sized) (subst (λ n. Wires-fail 255 n f) front-is (told pins))
-
   pub front-fits : Fits (s .gates) (s .pins) (length front)
   front-fits =
       let fits = of .sized .fits in
@@ -91,11 +78,22 @@ module _ (b : List ℕ) (s : Sizes) (of : Sizes-of b s) (list : List Wire) (room
         pins-fit = omega (arith, of .pins-are, of .gates-are, fits .pins-fit);
       }
 
-  -- the file's limit on counts is below that of a netlist
-  pub front-kept : Accepts b → Wires-pass 1048575 (wired (s .gates) pins front)
+  pub front-passes : Passes 255 (s .gates) (s .pins) front → Accepts b
+  front-passes told = record { sized = of .sized; pass = subst (Wires-pass 255) front-is (told .wires) }
+
+  pub front-fails : (f : CheckFault) → Fails 255 (s .gates) (s .pins) front f → Refuses b f
+  front-fails ShortFile told = absurd told
+  front-fails TooLarge told = absurd (told front-fits)
+  front-fails WrongLength told = absurd told
+  front-fails (NoGate k) told = (of .sized, subst (λ n. Wires-fail 255 n (NoGate k)) front-is (told .1))
+  front-fails (CountTooLarge k) told = (of .sized, subst (λ n. Wires-fail 255 n (CountTooLarge k)) front-is (told .1))
+  front-fails (FreeRound k) told = (of .sized, subst (λ n. Wires-fail 255 n (FreeRound k)) front-is (told .1))
+
+  -- the file's limit on counts is below that of a list
+  pub front-kept : Accepts b → Passes 1048575 (s .gates) (s .pins) front
   front-kept ok =
       let pass = subst (Wires-pass 255) (sym front-is) (ok .pass) in
-      record { ends = pass .ends; counts = λ k l deep. pass .counts k l (omega arith); rounds = pass .rounds }
+      record { sizes = front-fits; wires = record { ends = pass .ends; counts = λ k l deep. pass .counts k l (omega arith); rounds = pass .rounds } }
 
 -- no file is both accepted and refused
 pub not-both : (b : List ℕ) (f : CheckFault) → Accepts b → Refuses b f → ⊥

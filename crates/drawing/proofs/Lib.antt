@@ -1,5 +1,1 @@
 pub mod Drawn
-pub mod Filling
-pub mod Keeping
-pub mod Leading
-pub mod Pinning

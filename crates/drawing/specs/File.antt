@@ -1,16 +1,17 @@
 -- A drawing as a file: three sizes, the ends of each wire, the count of each wire, as 16-bit numbers, low byte first.
 use mathlib.Core.Bool.{cond}
-use mathlib.Core.List.{List, []}
+use mathlib.Core.List.{List}
 use mathlib.Core.Path.{_≡_}
 use Prim.Native.Nat.{ℕ, _+_, _*_, _<_, _≤_}
 use lib.Dec.{ltb}
 use lib.ListN.{length, getD}
 use Rattle.netlist.specs.Net.{Net}
-use Rattle.drawing.specs.declared.fault.CheckFault.{CheckFault}
-use Rattle.drawing.specs.declared.fault.CheckFault.the-variants.{ShortFile, TooLarge, WrongLength, NoGate, CountTooLarge, FreeRound}
-use Rattle.drawing.specs.declared.wire.Wire.{Wire}
-use Rattle.drawing.specs.Check.{Fits, Wires-pass, Wires-fail}
-use Rattle.drawing.specs.Wires.{no-wire, wired}
+use Rattle.wiring.specs.declared.fault.CheckFault.{CheckFault}
+use Rattle.wiring.specs.declared.fault.CheckFault.the-variants.{ShortFile, TooLarge, WrongLength, NoGate, CountTooLarge, FreeRound}
+use Rattle.wiring.specs.declared.wire.Wire.{Wire}
+use Rattle.wiring.specs.Check.{Fits, Wires-pass, Wires-fail}
+use Rattle.wiring.specs.List.{no-gates}
+use Rattle.wiring.specs.Wires.{no-wire}
 
 -- the number in the two bytes from place i
 abbrev pub word : List ℕ → ℕ → ℕ
@@ -65,4 +66,4 @@ Refuses b (FreeRound k) = Sized b × Wires-fail 255 (drawn b) (FreeRound k)
 -- the netlist that opening shows
 pub record Opened (b : List ℕ) (n : Net) : Type 0 where
   pub accepted : Accepts b → n ≡ drawn b
-  pub refused : (f : CheckFault) → Refuses b f → n ≡ wired 0 (λ g. ltb g 0) []
+  pub refused : (f : CheckFault) → Refuses b f → n ≡ no-gates

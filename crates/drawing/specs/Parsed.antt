@@ -5,9 +5,9 @@ use Prim.Native.Nat.{ℕ, _+_, _*_, _<_, _≤_}
 use lib.ListN.{length, getD}
 use Rattle.drawing.specs.declared.file.Parsed.{Parsed}
 use Rattle.drawing.specs.declared.file.Sizes.{Sizes}
-use Rattle.drawing.specs.declared.wire.Wire.{Wire}
+use Rattle.wiring.specs.declared.wire.Wire.{Wire}
 use Rattle.drawing.specs.File.{word, gates-in, pins-in, wires-in, wire-in, Sized, Accepts}
-use Rattle.drawing.specs.Wires.{no-wire}
+use Rattle.wiring.specs.Wires.{no-wire}
 
 -- s are the sizes of the well-sized file b
 pub record Sizes-of (b : List ℕ) (s : Sizes) : Type 0 where

@@ -6,14 +6,15 @@ ghost use Rattle.std.specs.Results.{Cases};
 ghost use Rattle.std.specs.Vec.{made};
 ghost use Rattle.drawing.specs.File.{word, Sized, Accepts, Refuses, Opened};
 ghost use Rattle.drawing.specs.Parsed.{Sizes-of, wire-behind, Parsed-from};
-ghost use Rattle.drawing.specs.Wires.{no-wire};
-ghost use Rattle.drawing.specs.Wiring.{wiring-net};
-use crate::check::check_wires;
-use crate::fault::CheckFault;
-use crate::wire::Wire;
-use crate::wiring::Wiring;
+ghost use Rattle.wiring.specs.Wires.{no-wire};
+ghost use Rattle.wiring.specs.Wiring.{wiring-net};
 use std::alloc::AllocError;
 use std::alloc::Global;
+use wiring::check::check_up_to;
+use wiring::fault::CheckFault;
+use wiring::list;
+use wiring::owned::Wiring;
+use wiring::wire::Wire;
 
 #[derive(Clone, Copy)]
 pub(crate) struct Sizes {
@@ -88,7 +89,7 @@ fn parse(bytes: &[u8]) -> Result<Parsed, CheckFault>
     let count = sizes.wires;
     let mut wires = [NO_WIRE; 4096];
     read_wires(rest, count, &mut wires);
-    check_wires(sizes.gates, 255, &wires[0..count])?;
+    check_up_to(255, sizes.gates, sizes.pins, &wires[0..count])?;
     Ok(Parsed { sizes, wires })
 }
 
@@ -108,8 +109,8 @@ pub fn open(heap: Global, bytes: &[u8]) -> Result<Wiring, AllocError>
         Ok(parsed) => {
             let sizes = parsed.sizes;
             let count = sizes.wires;
-            Wiring::new(heap, sizes.gates, sizes.pins, &parsed.wires[0..count])
+            list::open(heap, sizes.gates, sizes.pins, &parsed.wires[0..count])
         }
-        Err(_) => Wiring::new(heap, 0, 0, &[]),
+        Err(_) => Ok(Wiring::empty(heap)),
     }
 }

@@ -1,7 +1,2 @@
-// Netlists from outside: the drawing of a card as a file, its check and its opening.
-mod check;
+// The drawing of a card as a file: its check, and its opening as a netlist.
 pub mod file;
-pub mod fault;
-pub mod wire;
-pub mod wires;
-pub mod wiring;

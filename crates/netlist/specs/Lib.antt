@@ -1,2 +1,4 @@
+pub mod Lags
 pub mod Net
+pub mod Path
 pub mod Tally

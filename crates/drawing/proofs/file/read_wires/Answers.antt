@@ -1,7 +1,7 @@
 use native.Mathlib.Omega.{arith}
 use Rattle.drawing.specs.Parsed.{wire-behind}
-use Rattle.drawing.specs.Wires.{no-wire}
-use Rattle.drawing.proofs.Filling.{filled-more}
+use Rattle.wiring.specs.Wires.{no-wire}
+use Rattle.wiring.proofs.Filling.{filled-more}
 use Rattle.drawing.proofs.file.read_wires.Needs as need
 
 pub loop-k-again : need.loop-k-again

@@ -2,7 +2,7 @@ use mathlib.Core.Path.{_≡_}
 use Prim.Native.Nat.{ℕ, _<_}
 use lib.ListN.{getD}
 use Rattle.drawing.specs.Parsed.{wire-behind}
-use Rattle.drawing.specs.Wires.{no-wire}
+use Rattle.wiring.specs.Wires.{no-wire}
 use Rattle.drawing.proofs.file.read_wires.Given as given
 
 abbrev pub Inv-loop-k : given.InvT-loop-k

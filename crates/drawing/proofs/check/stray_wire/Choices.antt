@@ -1,7 +1,0 @@
-use mathlib.Core.Bool.{false}
-use Rattle.drawing.specs.Check.{None-below, Stray}
-use Rattle.drawing.specs.Wires.{wired}
-use Rattle.drawing.proofs.check.stray_wire.Given as given
-
-abbrev pub Inv-loop-k : given.InvT-loop-k
-Inv-loop-k l = None-below (l .k) (Stray (wired (l .gates) (λ _. false) (l .wires)))

@@ -1,0 +1,5 @@
+pub mod Check
+pub mod List
+pub mod Refusals
+pub mod Wires
+pub mod Wiring
