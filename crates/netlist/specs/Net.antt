@@ -1,10 +1,11 @@
 -- A netlist as a value, the graph of its wires, and rounds of wires without a register.
 use mathlib.Core.Path.{_≡_}
-use mathlib.Core.Bool.{Bool}
+use mathlib.Core.Bool.{Bool, cond}
 use Prim.Native.Nat.{ℕ, _<_}
 use lib.Dec.{eqb}
 use Rattle.graph.specs.Digraph.{Digraph}
 use Rattle.graph.specs.Reach.{Leads}
+use Rattle.graph.specs.Sums.{total}
 
 pub record Net : Type 0 where
   pub gates : ℕ
@@ -13,6 +14,10 @@ pub record Net : Type 0 where
   pub driver : ℕ → ℕ
   pub driven : ℕ → ℕ
   pub count : ℕ → ℕ
+
+-- how many gates are pinned
+abbrev pub pins : Net → ℕ
+pins n = total (λ g. cond (n .pinned g) 1 0) (n .gates)
 
 -- gates are nodes, and wires are arcs, open where they carry no register
 abbrev pub graph-of : Net → Digraph
