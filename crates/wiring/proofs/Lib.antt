@@ -2,4 +2,5 @@ pub mod Filling
 pub mod Keeping
 pub mod Leading
 pub mod Pinning
+pub mod Rising
 pub mod Verdicts

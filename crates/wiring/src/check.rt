@@ -1,5 +1,5 @@
 // The check of a list of wires: ends, counts and rounds, each from the first wire to the last.
-ghost use mathlib.Core.Bool.{Bool, false};
+ghost use mathlib.Core.Bool.{Bool, true, false};
 ghost use mathlib.Core.Path.{_≡_};
 ghost use Prim.Native.Nat.{ℕ, _<_, _≤_};
 ghost use lib.ListN.{length};
@@ -9,7 +9,8 @@ ghost use Rattle.graph.specs.Reach.{Leads};
 ghost use Rattle.netlist.specs.Net.{On-free-round};
 ghost use Rattle.wiring.specs.Check.{Finds, Stray, Deep, None-below, Wires-pass, Wires-fail};
 ghost use Rattle.wiring.specs.List.{Passes, Fails};
-ghost use Rattle.wiring.specs.Wires.{wired};
+ghost use Rattle.wiring.specs.Levels.{Rises};
+ghost use Rattle.wiring.specs.Wires.{wired, No-free-round};
 ghost use Rattle.wiring.specs.Wiring.{wires-graph};
 use crate::fault::CheckFault;
 use crate::wire::Wire;
@@ -52,11 +53,44 @@ fn leads(wires: &Wires<'_>, from: usize, to: usize) -> bool
     marks[to] == 1
 }
 
+// Lifts the driven gate of each wire without a register above its driver. Answers whether a gate was lifted.
+fn lift(wires: &Wires<'_>, levels: &mut [u16]) -> bool
+    requires { ⌜ now wires .gates ≤ length (now levels) ⌝ }
+    ensures { λ r. ⌜ (r ≡ false → Rises (now (now (wires .entry) .list)) (now (levels .exit))) ⌝ }
+{
+    let mut lifted = false;
+    for wire in wires.list {
+        let level = levels[wire.driver as usize];
+        if wire.count == 0 && levels[wire.driven as usize] <= level {
+            levels[wire.driven as usize] = level.saturating_add(1);
+            lifted = true;
+        }
+    }
+    lifted
+}
+
+// Whether levels were found that rise along each wire without a register: then no round consists of such wires.
+// Most drawings have such levels after a few turns; where there is a round, no turn is the last.
+fn rises(wires: &Wires<'_>) -> bool
+    ensures { λ r. ⌜ (r ≡ true → No-free-round (now (wires .entry) .gates) (now (now (wires .entry) .list))) ⌝ }
+{
+    let mut levels = [0u16; 1024];
+    for _ in 0..=wires.gates {
+        if !lift(wires, &mut levels) {
+            return true;
+        }
+    }
+    false
+}
+
 // The lowest wire that lies on a round of wires without a register.
 fn round_wire(wires: &Wires<'_>) -> Option<usize>
     ensures { λ r. ⌜ Finds (length (now (now (wires .entry) .list))) (On-free-round (wired (now (wires .entry) .gates) (λ _. false) (now (now (wires .entry) .list)))) r ⌝ }
 {
     let mut found = None;
+    if rises(wires) {
+        return found;
+    }
     'wires: for (k, wire) in wires.list.iter().enumerate() {
         if wire.count > 0 {
             continue 'wires;
