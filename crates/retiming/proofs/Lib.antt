@@ -1,0 +1,19 @@
+-- Lemmas by idea.
+pub mod Bundles
+pub mod Cap
+pub mod Cross
+pub mod Cut
+pub mod Deepest
+pub mod Duality
+pub mod Falls
+pub mod Heights
+pub mod Identity
+pub mod Kept
+pub mod Lattice
+pub mod Needs
+pub mod Orders
+pub mod Paths
+pub mod Push
+pub mod Sets
+pub mod Sums
+pub mod Units
