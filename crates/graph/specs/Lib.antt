@@ -5,3 +5,4 @@ pub mod Frontier
 pub mod Reach
 pub mod Refusals
 pub mod Sums
+pub mod Trace

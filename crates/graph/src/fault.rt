@@ -4,7 +4,7 @@ ghost use Rattle.graph.specs.Refusals.{refusal};
 
 #[derive(Clone, Copy, PartialEq, Eq, Debug)]
 pub enum SearchFault {
-    // The row of marks is shorter than the graph has nodes.
+    // A row is shorter than the graph has nodes.
     ShortRow,
 }
 

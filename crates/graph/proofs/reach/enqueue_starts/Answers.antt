@@ -6,10 +6,10 @@ use Rattle.graph.proofs.reach.enqueue_starts.Needs as need
 use Rattle.graph.proofs.reach.enqueue_starts.Needs.{then-marks-v-ne0, else-marks-v-ne0}
 
 pub loop-v-holds : need.loop-v-holds
-loop-v-holds c = starting-none _ _
+loop-v-holds c = starting-none _ _ _
 
 pub enqueue-tail-requires : need.enqueue-tail-requires
-enqueue-tail-requires c κs = record { node = omega arith; room = omega (arith, tail-le (c .loop-v .inv .queued)); small = omega arith }
+enqueue-tail-requires c κs = record { node = omega arith; room = omega (arith, tail-le (c .loop-v .inv .queued)); hops = omega arith; small = omega arith }
 
 pub loop-v-again : need.loop-v-again
 loop-v-again c =
@@ -17,7 +17,7 @@ loop-v-again c =
     elim (c .if-marks-v-ne0 .came) [
       | then-marks-v-ne0 w ↦
           let done = w .enqueue-tail .ensures in
-          simp (w .marks-is, w .queue-is, w .tail-is, done .marks, done .queue, done .longer)
-          (starting-more old (omega (arith, w .if-marks-v-ne0 .taken)) (omega arith) (omega (arith, tail-le (old .queued))))
-      | else-marks-v-ne0 w ↦ simp (w .marks-is, w .queue-is, w .tail-is) (starting-skip old (w .if-marks-v-ne0 .left))
+          simp (w .marks-is, w .queue-is, w .hops-is, w .tail-is, done .marks, done .queue, done .hops, done .longer)
+          (starting-more old (omega (arith, w .if-marks-v-ne0 .taken)) (omega arith) (omega (arith, tail-le (old .queued))) (omega arith))
+      | else-marks-v-ne0 w ↦ simp (w .marks-is, w .queue-is, w .hops-is, w .tail-is) (starting-skip old (w .if-marks-v-ne0 .left))
     ]
