@@ -1,4 +1,4 @@
 -- The lemmas behind the interleaving.
 pub mod Choosing
-pub mod Holding
+pub mod Opening
 pub mod Scaling

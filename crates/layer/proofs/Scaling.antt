@@ -10,8 +10,8 @@ use Rattle.std.proofs.shelf.Tests.{cases-lt, cases-eq, eq-eqb, ne-eqb}
 use Rattle.graph.specs.Reach.{Leads}
 use Rattle.netlist.specs.Net.{Net, graph-of, On-free-round}
 use Rattle.netlist.specs.Path.{Path, stay, go, carried}
+use Rattle.wiring.proofs.Holding.{Sound}
 use Rattle.layer.specs.Times.{times, Passes, Carries}
-use Rattle.layer.proofs.Holding.{Sound}
 
 -- a product with a factor of at least 1
 positive : (f c : ℕ) → 1 ≤ f → c ≤ f * c

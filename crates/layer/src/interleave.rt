@@ -5,8 +5,9 @@ ghost use Rattle.std.specs.Of.Vec.{vec-len, vec-items};
 ghost use Rattle.std.specs.Results.{Cases};
 ghost use Rattle.std.specs.Vec.{made};
 ghost use Rattle.layer.specs.Times.{times, Passes, Fails, Shows, Shows-paths, Chosen};
-ghost use Rattle.layer.specs.Wires.{wire-of, Holds-pins, Holds-wires};
+ghost use Rattle.layer.specs.Wires.{Has-pins, Has-wires};
 ghost use Rattle.wiring.specs.Check.{Finds, Deep};
+ghost use Rattle.wiring.specs.Held.{wire-of};
 ghost use Rattle.wiring.specs.Wiring.{wiring-net};
 use crate::fault::LayerFault;
 use netlist::ask::Netlist;
@@ -54,7 +55,7 @@ fn shown_factor<N: Netlist>(net: &N, factor: u32) -> u32
 
 // For each gate whether it is pinned.
 fn pin_row<N: Netlist>(heap: Global, net: &N) -> Result<Vec<bool>, AllocError>
-    ensures { λ r. ⌜ made r (λ v. Holds-pins (meaning (now (net .entry))) (vec-len v) (vec-items v)) ⌝ }
+    ensures { λ r. ⌜ made r (λ v. Has-pins (meaning (now (net .entry))) (vec-len v) (vec-items v)) ⌝ }
 {
     let mut row = Vec::new(heap);
     for gate in 0..net.gate_count() {
@@ -79,7 +80,7 @@ fn scaled_wire<N: Netlist>(net: &N, factor: u32, k: usize) -> Wire
 // All wires in order, with their counts times the factor.
 fn scaled_wires<N: Netlist>(heap: Global, net: &N, factor: u32) -> Result<Vec<Wire>, AllocError>
     requires { ⌜ Passes factor (meaning (now net)) ⌝ }
-    ensures { λ r. ⌜ made r (λ v. Holds-wires (times factor (meaning (now (net .entry)))) (vec-len v) (vec-items v)) ⌝ }
+    ensures { λ r. ⌜ made r (λ v. Has-wires (times factor (meaning (now (net .entry)))) (vec-len v) (vec-items v)) ⌝ }
 {
     let mut wires = Vec::new(heap);
     for k in 0..net.wire_count() {

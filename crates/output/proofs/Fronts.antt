@@ -11,12 +11,13 @@ use Rattle.std.proofs.shelf.Tests.{cases-lt, lt-ltb, le-ltb, cond-true, cond-fa
 use Rattle.drawing.specs.File.{word, gates-in, pins-in, wires-in, wire-in, wire-or-none, drawn, Accepts}
 use Rattle.netlist.specs.Net.{Net}
 use Rattle.wiring.specs.Check.{Wires-pass}
+use Rattle.wiring.specs.Held.{wire-of}
 use Rattle.wiring.specs.Wires.{no-wire}
+use Rattle.wiring.proofs.Holding.{Sound, sound-pass, none-past}
 use Rattle.output.specs.Numbers.{Small, number-of, Holds-numbers, Kept-from}
-use Rattle.output.specs.Records.{wire-of}
 use Rattle.output.specs.Written.{Pins-first, Written}
-use Rattle.output.proofs.Holding.{Sound, sound-pass, pinned-is, none-past}
 use Rattle.output.proofs.Numbering.{driver-number, driven-number, count-number}
+use Rattle.output.proofs.Settling.{pinned-is}
 
 word-take : (b : List ℕ) (r i : ℕ) → i + 1 < r → word (take r b) i ≡ word b i
 word-take b r i l = omega (arith, getD-take r b i 0 (omega arith), getD-take r b (i + 1) 0 l)

@@ -6,19 +6,13 @@ use lib.Dec.{ltb}
 use lib.ListN.{length, getD, take}
 use Rattle.netlist.specs.Net.{Net}
 use Rattle.wiring.specs.declared.wire.Wire.{Wire}
+use Rattle.wiring.specs.Held.{Holds-wires}
 use Rattle.wiring.specs.List.{listed, Passes}
 use Rattle.wiring.specs.Wires.{no-wire}
 use Rattle.std.specs.declared.result.Result.{Result}
 use Rattle.std.specs.Results.{Cases}
 use Rattle.output.specs.declared.fault.SettleFault.{SettleFault}
 use Rattle.output.specs.declared.fault.SettleFault.the-variants.{ShortList}
-
-abbrev pub wire-of : Net → ℕ → Wire
-wire-of n k = record { driver = n .driver k; driven = n .driven k; count = n .count k }
-
--- the list begins with the wires of n, in order
-abbrev pub Holds-wires : Net → List Wire → Type 0
-Holds-wires n ws = (k : ℕ) → k < n .wires → getD ws k no-wire ≡ wire-of n k
 
 -- the records from a place on are as they were
 abbrev pub Kept-wires : ℕ → List Wire → List Wire → Type 0

@@ -1,5 +1,5 @@
 -- What writing a netlist as a file accepts and refuses, and what stands in the row of bytes afterwards.
-use mathlib.Core.Bool.{true, false, cond}
+use mathlib.Core.Bool.{true, false}
 use mathlib.Core.List.{List}
 use mathlib.Core.Path.{_≡_}
 use Prim.Native.Nat.{ℕ, _+_, _*_, _<_, _≤_}
@@ -7,17 +7,12 @@ use lib.ListN.{length, take}
 use Rattle.std.specs.declared.result.Result.{Result}
 use Rattle.std.specs.Results.{Cases}
 use Rattle.drawing.specs.File.{pins-in, drawn, Accepts}
-use Rattle.graph.specs.Sums.{total}
-use Rattle.netlist.specs.Net.{Net}
+use Rattle.netlist.specs.Net.{Net, pins}
 use Rattle.wiring.specs.Check.{None-below, Lowest, Deep}
 use Rattle.output.specs.declared.fault.WriteFault.{WriteFault}
 use Rattle.output.specs.declared.fault.WriteFault.the-variants.{ShortRow, CountTooLarge, LatePin}
 use Rattle.output.specs.Numbers.{Small, Kept-from}
 use Rattle.output.specs.Records.{Pinned-below}
-
--- how many of the gates below a bound are pinned
-abbrev pub pins-below : Net → ℕ → ℕ
-pins-below n bound = total (λ g. cond (n .pinned g) 1 0) bound
 
 -- gate g is pinned, and some gate below it is not
 pub record Late (n : Net) (g : ℕ) : Type 0 where
@@ -27,9 +22,9 @@ pub record Late (n : Net) (g : ℕ) : Type 0 where
   pub gap-free : n .pinned gap ≡ false
 
 -- the pinned gates come first, and are so many
-pub record Pins-first (n : Net) (pins : ℕ) : Type 0 where
-  pub counted : pins ≡ pins-below n (n .gates)
-  pub first : Pinned-below n pins
+pub record Pins-first (n : Net) (number : ℕ) : Type 0 where
+  pub counted : number ≡ pins n
+  pub first : Pinned-below n number
   pub none-late : None-below (n .gates) (Late n)
 
 abbrev pub Late-pin : Net → WriteFault → Type 0

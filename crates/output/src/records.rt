@@ -2,7 +2,8 @@
 ghost use mathlib.Core.Path.{_≡_};
 ghost use Prim.Native.Nat.{_<_, _≤_};
 ghost use lib.ListN.{length};
-ghost use Rattle.output.specs.Records.{wire-of, Holds-wires, Kept-wires, Settles};
+ghost use Rattle.output.specs.Records.{Kept-wires, Settles};
+ghost use Rattle.wiring.specs.Held.{wire-of, Holds-wires};
 use crate::fault::SettleFault;
 use netlist::ask::Netlist;
 use wiring::wire::Wire;

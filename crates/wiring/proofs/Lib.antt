@@ -1,4 +1,5 @@
 pub mod Filling
+pub mod Holding
 pub mod Keeping
 pub mod Leading
 pub mod Pinning

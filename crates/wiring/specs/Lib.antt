@@ -1,4 +1,5 @@
 pub mod Check
+pub mod Held
 pub mod Levels
 pub mod List
 pub mod Refusals

@@ -1,8 +1,9 @@
 use Rattle.std.proofs.shelf.Results.{made-weaker}
 use Rattle.wiring.specs.Wiring.{wiring-net}
+use Rattle.wiring.proofs.Holding.{Sound}
 use Rattle.layer.specs.Times.{times}
 use Rattle.layer.proofs.Choosing.{shows, shows-paths}
-use Rattle.layer.proofs.Holding.{Sound, opened-is}
+use Rattle.layer.proofs.Opening.{opened-is}
 use Rattle.layer.proofs.Scaling.{sound-times}
 use Rattle.layer.proofs.interleave.open.Needs as need
 

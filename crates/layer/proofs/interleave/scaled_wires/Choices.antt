@@ -2,9 +2,9 @@ use mathlib.Core.Path.{_≡_}
 use Prim.Native.Nat.{ℕ, _<_}
 use lib.ListN.{getD}
 use Rattle.std.specs.Of.Vec.{vec-len, vec-items}
+use Rattle.wiring.specs.Held.{wire-of}
 use Rattle.wiring.specs.Wires.{no-wire}
 use Rattle.layer.specs.Times.{times}
-use Rattle.layer.specs.Wires.{wire-of}
 use Rattle.layer.proofs.interleave.scaled_wires.Given as given
 
 abbrev pub Inv-loop-k : given.InvT-loop-k

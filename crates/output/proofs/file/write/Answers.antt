@@ -3,9 +3,9 @@ use Prim.Native.Nat.{ℕ, _+_, _*_, _≤_}
 use native.Mathlib.Omega.{arith}
 use lib.ListN.{length}
 use borrow.Author.Needs.{needs}
+use Rattle.wiring.proofs.Holding.{Sound}
 use Rattle.output.specs.Written.{Written}
 use Rattle.output.proofs.Fronts.{front-written}
-use Rattle.output.proofs.Holding.{Sound}
 use Rattle.output.proofs.file.write.Needs as need
 
 pub returns : need.returns

@@ -1,8 +1,8 @@
 use mathlib.Core.Path.{_≡_}
 use Prim.Native.Nat.{ℕ, _<_, _≤_}
 use lib.ListN.{getD}
+use Rattle.wiring.specs.Held.{wire-of}
 use Rattle.wiring.specs.Wires.{no-wire}
-use Rattle.output.specs.Records.{wire-of}
 use Rattle.output.proofs.records.put_wires.Given as given
 
 abbrev pub Inv-loop-k : given.InvT-loop-k

@@ -2,7 +2,8 @@ use Prim.Native.Nat.{_≤_}
 use native.Mathlib.Omega.{arith}
 use lib.ListN.{length}
 use borrow.Author.Needs.{needs}
-use Rattle.output.proofs.Holding.{Sound, front-lists}
+use Rattle.wiring.proofs.Holding.{Sound}
+use Rattle.output.proofs.Settling.{front-lists}
 use Rattle.output.proofs.records.settle.Needs as need
 
 pub returns : need.returns

@@ -1,20 +1,21 @@
--- What the laws say of a netlist, and that a list which holds its wires opens as it.
-use mathlib.Core.Bool.{false}
+-- What the laws say of a netlist, and that a list which holds its wires passes the check of lists and stands for it.
+use mathlib.Core.Bool.{Bool, false}
 use mathlib.Core.List.{List}
 use mathlib.Core.Logic.{⊎-elim}
 use mathlib.Core.Path.{_≡_, sym, subst, _∙_}
 use Prim.Native.Nat.{ℕ, _<_, _≤_}
 use native.Mathlib.Omega.{arith}
 use lib.Dec.{ltb}
-use lib.ListN.{length, getD, take}
-use Rattle.std.proofs.shelf.Lists.{getD-past, getD-take, length-take-le}
-use Rattle.std.proofs.shelf.Tests.{cases-lt, le-ltb}
+use lib.ListN.{length, getD}
+use Rattle.std.proofs.shelf.Lists.{getD-past}
+use Rattle.std.proofs.shelf.Tests.{cases-lt}
 use Rattle.netlist.specs.Net.{Net, On-free-round}
 use Rattle.wiring.specs.declared.wire.Wire.{Wire}
 use Rattle.wiring.specs.Check.{None-below, Deep, Wires-pass}
-use Rattle.wiring.specs.List.{listed}
-use Rattle.wiring.specs.Wires.{no-wire}
-use Rattle.output.specs.Records.{wire-of, Holds-wires, Pinned-below, Lists}
+use Rattle.wiring.specs.Held.{wire-of, Holds-wires}
+use Rattle.wiring.specs.List.{Passes}
+use Rattle.wiring.specs.Wires.{no-wire, wired}
+use Rattle.wiring.proofs.Keeping.{pass-repinned}
 
 -- what the laws say of each netlist
 pub record Sound (n : Net) : Type 0 where
@@ -35,9 +36,6 @@ module _ (n : Net) (sound : Sound n) where
     rounds = λ k l. sound .rounds k;
   }
 
-  pub pinned-is : (pins : ℕ) → Pinned-below n pins → (g : ℕ) → ltb g pins ≡ n .pinned g
-  pinned-is pins first g = ⊎-elim (λ l. sym (first .1 g l)) (λ past. le-ltb g pins (omega (arith, first .0)) ∙ sym (sound .past-gates g past)) (cases-lt g (n .gates))
-
   pub none-past : (k : ℕ) → n .wires ≤ k → no-wire ≡ wire-of n k
   none-past k past = let none = sound .past-wires k past in λ i. record { driver = sym (none .0) i; driven = sym (none .1) i; count = sym (none .2) i }
 
@@ -45,25 +43,18 @@ module _ (n : Net) (sound : Sound n) where
     at : (k : ℕ) → getD ws k no-wire ≡ wire-of n k
     at k = ⊎-elim (held k) (λ past. getD-past ws k no-wire (omega arith) ∙ none-past k past) (cases-lt k (n .wires))
 
-    listed-is : (pins : ℕ) → Pinned-below n pins → listed (n .gates) pins ws ≡ n
-    listed-is pins first = λ i. record {
+    pub held-is : (pinned : ℕ → Bool) → ((g : ℕ) → pinned g ≡ n .pinned g) → wired (n .gates) pinned ws ≡ n
+    held-is pinned same = λ i. record {
       gates = n .gates;
-      pinned = λ g. pinned-is pins first g i;
+      pinned = λ g. same g i;
       wires = long i;
       driver = λ k. at k i .driver;
       driven = λ k. at k i .driven;
       count = λ k. at k i .count;
     }
 
-    pub held-lists : (pins : ℕ) → Pinned-below n pins → Lists n pins ws
-    held-lists pins first = record {
-      passes = record {
-        sizes = record { gates-fit = sound .few-gates; wires-fit = omega (arith, sound .few-wires); pins-fit = first .0 };
-        wires = subst (Wires-pass 1048575) (sym (listed-is pins first)) (sound-pass 1048575 (λ k l over. omega (arith, sound .counts k)));
-      };
-      same = listed-is pins first;
+    pub held-passes : (pins : ℕ) → pins ≤ n .gates → Passes 1048575 (n .gates) pins ws
+    held-passes pins few = record {
+      sizes = record { gates-fit = sound .few-gates; wires-fit = omega (arith, sound .few-wires); pins-fit = few };
+      wires = pass-repinned 1048575 (n .gates) (n .pinned) (λ g. ltb g pins) ws (subst (Wires-pass 1048575) (sym (held-is (n .pinned) (λ g i. n .pinned g))) (sound-pass 1048575 (λ k l over. omega (arith, sound .counts k))));
     }
-
-  -- the front of a list that begins with the wires
-  pub front-lists : (ws : List Wire) → n .wires ≤ length ws → Holds-wires n ws → (pins : ℕ) → Pinned-below n pins → Lists n pins (take (n .wires) ws)
-  front-lists ws room held = held-lists (take (n .wires) ws) (length-take-le (n .wires) ws room) (λ k l. getD-take (n .wires) ws k no-wire l ∙ held k l)
