@@ -1,0 +1,21 @@
+-- The lemmas of the engine.
+pub mod Advancing
+pub mod Carrying
+pub mod Certified
+pub mod Choosing
+pub mod Closing
+pub mod Deciding
+pub mod Filling
+pub mod Holders
+pub mod Keeping
+pub mod Leftovers
+pub mod Lessening
+pub mod Needed
+pub mod Numbered
+pub mod Owning
+pub mod Picking
+pub mod Pricing
+pub mod Slacks
+pub mod Stepping
+pub mod Sticking
+pub mod Walking
