@@ -1,5 +1,6 @@
 -- The lemmas of the engine.
 pub mod Advancing
+pub mod Agreeing
 pub mod Carrying
 pub mod Certified
 pub mod Choosing

@@ -1,10 +1,12 @@
 -- What the engine's calls answer, and what they leave.
 use mathlib.Core.Bool.{Bool}
 use mathlib.Core.List.{List}
+use mathlib.Core.Logic.{_⊎_}
 use mathlib.Core.Path.{_≡_}
 use Prim.Native.Nat.{ℕ, _<_, _≤_}
 use lib.IntN.{ℤ}
 use lib.ListN.{length, getD}
+use Rattle.std.specs.Orderings.{When}
 use Rattle.netlist.specs.Lags.{under}
 use Rattle.retiming.specs.declared.way.Way.{Way}
 use Rattle.retiming.specs.Nearest.{Nearest}
@@ -39,5 +41,22 @@ pub record Witnessed (gates : ℕ) (links : List Link) (fixed : List Bool) (lags
 -- some permitted lags need fewer, and the rows are as they were
 pub record Improvable (gates : ℕ) (links : List Link) (fixed : List Bool) (lags : List ℤ) (shares₀ flows₀ shares′ flows′ : List ℕ) : Type 0 where
   pub better : Better gates links fixed lags lags
+  pub same-shares : shares′ ≡ shares₀
+  pub same-flows : flows′ ≡ flows₀
+
+-- what is decided of a fit table, with rows that are long enough
+pub record Decided (gates : ℕ) (links : List Link) (fixed : List Bool) (lags : List ℤ) (shares₀ flows₀ shares′ flows′ : List ℕ) (none-fewer : Bool) : Type 0 where
+  pub fit : Fit gates links fixed lags
+  pub shares-long : length links ≤ length shares₀
+  pub flows-long : length links ≤ length flows₀
+  pub verdict : When none-fewer (Witnessed gates links fixed lags shares₀ flows₀ shares′ flows′) (Improvable gates links fixed lags shares₀ flows₀ shares′ flows′)
+
+-- why nothing is decided
+abbrev pub Why : ℕ → List Link → List Bool → List ℤ → List ℕ → List ℕ → TableFault → Type 0
+Why gates links fixed lags shares₀ flows₀ Unfit = Fit gates links fixed lags → ⊥
+Why gates links fixed lags shares₀ flows₀ ShortRow = Fit gates links fixed lags × ((length shares₀ < length links) ⊎ (length flows₀ < length links))
+
+pub record Undecided (gates : ℕ) (links : List Link) (fixed : List Bool) (lags : List ℤ) (shares₀ flows₀ shares′ flows′ : List ℕ) (f : TableFault) : Type 0 where
+  pub why : Why gates links fixed lags shares₀ flows₀ f
   pub same-shares : shares′ ≡ shares₀
   pub same-flows : flows′ ≡ flows₀

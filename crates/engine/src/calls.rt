@@ -2,8 +2,11 @@
 ghost use mathlib.Core.Path.{_≡_};
 ghost use Prim.Native.Nat.{ℕ, _<_, _≤_};
 ghost use Rattle.std.specs.Results.{Cases};
-ghost use Rattle.engine.specs.Calls.{Fewest, Refused};
+ghost use Rattle.engine.specs.Calls.{Fewest, Refused, Decided, Undecided};
 use crate::check::is_fit;
+use crate::decide::balanced;
+use crate::decide::copy_front;
+use crate::decide::write_shares;
 use crate::fault::TableFault;
 use crate::fewest::seek;
 use crate::link::Link;
@@ -18,4 +21,25 @@ pub fn fewest(way: Way, gates: usize, links: &[Link], fixed: &[bool], lags: &mut
         return Err(TableFault::Unfit);
     }
     Ok(seek(way, gates, links, fixed, lags))
+}
+
+// Decides, at unchanged lags, whether any permitted lags at all need fewer registers. If none do, it answers true and
+// writes the witness: a share and a flow for each wire.
+pub fn decide(gates: usize, links: &[Link], fixed: &[bool], lags: &[i32], shares: &mut [u16], flows: &mut [u16]) -> Result<bool, TableFault>
+    ensures { λ r. ⌜ Cases r (λ b. Decided gates (now (links .entry)) (now (fixed .entry)) (now (lags .entry)) (now (shares .entry)) (now (flows .entry)) (now (shares .exit)) (now (flows .exit)) b) (Undecided gates (now (links .entry)) (now (fixed .entry)) (now (lags .entry)) (now (shares .entry)) (now (flows .entry)) (now (shares .exit)) (now (flows .exit))) ⌝ }
+{
+    if !is_fit(gates, links, fixed, lags) {
+        return Err(TableFault::Unfit);
+    }
+    if shares.len() < links.len() || flows.len() < links.len() {
+        return Err(TableFault::ShortRow);
+    }
+    let mut holders = [0u16; 4096];
+    let mut flow = [0u16; 4096];
+    if !balanced(gates, links, fixed, lags, &mut holders, &mut flow) {
+        return Ok(false);
+    }
+    write_shares(gates, links, &holders, shares);
+    copy_front(links.len(), &flow, flows);
+    Ok(true)
 }
