@@ -55,7 +55,7 @@ pub(crate) fn balance(way: Way, gates: usize, links: &[Link], fixed: &[bool], de
     'rounds: loop {
         match round(way, gates, links, fixed, depths, holders, flows, &mut marks) {
             Outcome::Settled => return true,
-            Outcome::Carried => {}
+            Outcome::Carried => continue 'rounds,
             Outcome::Stuck => return false,
         }
     }

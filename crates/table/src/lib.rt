@@ -8,4 +8,6 @@ mod interleaves;
 #[cfg(test)]
 mod lists;
 #[cfg(test)]
+mod retimings;
+#[cfg(test)]
 mod wires;
