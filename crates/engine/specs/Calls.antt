@@ -19,10 +19,12 @@ use Rattle.engine.specs.Rows.{flows}
 use Rattle.engine.specs.State.{Within, Better}
 use Rattle.engine.specs.Table.{table, bundles, lags-of, fixed-of}
 
--- the lags were moved one way to where the fewest registers are needed, as near as that can be had: so many before, so many after
+-- the lags were moved one way to where the fewest registers are needed, as near as that can be had: so many before, so many after;
+-- no count is over the latter, and a lag with the registers needed adds to no more than before, so lags and counts stay within what the counts at lags 0 add to
 pub record Fewest (way : Way) (gates : ℕ) (links : List Link) (fixed : List Bool) (lags lags′ : List ℤ) (before after : ℕ) : Type 0 where
   pub fit : Fit gates links fixed lags
   pub nearest : Nearest way (table gates links) (bundles links) (fixed-of fixed) (lags-of lags) (lags-of lags′) before after
+  pub counts : (k : ℕ) → k < length links → under (table gates links) (lags-of lags′) .count k ≤ after
   pub past : (g : ℕ) → gates ≤ g → lags-of lags′ g ≡ lags-of lags g
   pub within : (bound : ℕ) → Within gates links bound lags → Within gates links bound lags′
 

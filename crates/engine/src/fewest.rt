@@ -2,6 +2,7 @@
 ghost use mathlib.Core.Path.{_≡_};
 ghost use Prim.Native.Nat.{ℕ, _<_, _≤_};
 ghost use lib.ListN.{length, getD};
+ghost use Rattle.netlist.specs.Lags.{under};
 ghost use Rattle.retiming.specs.Nearest.{Nearest};
 ghost use Rattle.engine.specs.Rows.{Depths, Holding};
 ghost use Rattle.engine.specs.State.{Within};
@@ -46,6 +47,7 @@ pub(crate) fn seek(way: Way, gates: usize, links: &[Link], fixed: &[bool], lags:
     requires standing { ⌜ Standing gates (now links) (now lags) ⌝ }
     requires within { ⌜ Within gates (now links) 1048575 (now lags) ⌝ }
     ensures nearest { λ r. ⌜ Nearest way (table gates (now (links .entry))) (bundles (now (links .entry))) (fixed-of (now (fixed .entry))) (lags-of (now (lags .entry))) (lags-of (now (lags .exit))) (r .0) (r .1) ⌝ }
+    ensures counts { λ r. ⌜ ((k : ℕ) → k < length (now (links .entry)) → under (table gates (now (links .entry))) (lags-of (now (lags .exit))) .count k ≤ r .1) ⌝ }
     ensures past { λ _. ⌜ ((g : ℕ) → gates ≤ g → lags-of (now (lags .exit)) g ≡ lags-of (now (lags .entry)) g) ⌝ }
     ensures within { λ _. ⌜ ((bound : ℕ) → Within gates (now (links .entry)) bound (now (lags .entry)) → Within gates (now (links .entry)) bound (now (lags .exit))) ⌝ }
 {

@@ -17,3 +17,4 @@ pub mod Push
 pub mod Sets
 pub mod Sums
 pub mod Units
+pub mod Weight

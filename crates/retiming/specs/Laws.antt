@@ -4,6 +4,7 @@ use mathlib.Core.List.{List}
 use mathlib.Core.Path.{_≡_}
 use Prim.Native.Nat.{ℕ, _+_, _≤_}
 use lib.IntN.{pos, _+ℤ_, _-ℤ_}
+use Rattle.graph.specs.Sums.{total}
 use Rattle.netlist.specs.Net.{Net}
 use Rattle.netlist.specs.Tally.{Marking}
 use Rattle.netlist.specs.Lags.{Lags, Permitted, under, needs}
@@ -39,3 +40,7 @@ Paths-keep = (n : Net) (fixed : ℕ → Bool) (present r : Lags) → Permitted n
 abbrev pub Both-ways-suffice : Type 0
 Both-ways-suffice = (way : Way) (n : Net) (mark : Marking) (fixed : ℕ → Bool) (first middle last : Lags) (a b c d : ℕ) → Nearest way n mark fixed first middle a b → Nearest (opposite way) n mark fixed middle last c d →
     (q : Lags) → Permitted n fixed first q → needs n mark last ≤ needs n mark q
+
+-- at lags 0 no more registers are needed than all counts added
+abbrev pub Weight-bounds : Type 0
+Weight-bounds = (n : Net) (mark : Marking) → Sound n mark → needs n mark (λ _. pos 0) ≤ total (n .count) (n .wires)

@@ -1,5 +1,5 @@
 // The theorems, each as the contract of a function that does nothing.
-ghost use Rattle.retiming.specs.Laws.{Witness-suffices, Lattice-holds, Paths-keep, Both-ways-suffice};
+ghost use Rattle.retiming.specs.Laws.{Witness-suffices, Lattice-holds, Paths-keep, Both-ways-suffice, Weight-bounds};
 
 pub fn witness_suffices()
     ensures { λ _. ⌜ Witness-suffices ⌝ }
@@ -16,3 +16,8 @@ pub fn paths_keep()
 pub fn both_ways_suffice()
     ensures { λ _. ⌜ Both-ways-suffice ⌝ }
 {}
+
+pub fn weight_bounds()
+    ensures { λ _. ⌜ Weight-bounds ⌝ }
+{
+}

@@ -3,6 +3,7 @@ use Prim.Native.Nat.{ℕ}
 use Rattle.retiming.specs.Nearest.{Nearest}
 use Rattle.engine.specs.Table.{table, bundles, lags-of, fixed-of}
 use Rattle.engine.proofs.Advancing.{state-first, state-last}
+use Rattle.engine.proofs.Needed.{depth-le-needs}
 use Rattle.engine.proofs.fewest.seek.Needs as need
 
 pub settle-requires : need.settle-requires
@@ -24,6 +25,7 @@ returns c =
     record {
       nearest = subst₂ (λ (a b : ℕ). Nearest (c .args .way) (table gates links) (bundles links) (fixed-of (c .args .fixed .now)) (lags-of (c .args .lags .now)) (lags-of (c .settle .last .lags)) a b) (sym before) (sym after)
         (state-last (c .args .way) gates links (c .args .fixed .now) (c .args .lags .now) (c .settle .last .lags) (c .settle .last .depths) (c .settle .last .holders) (c .settle .last .flows) (c .pre .tabled) state (c .settle .ensures .done));
+      counts = λ k h. rw after (depth-le-needs gates links (c .settle .last .lags) (c .settle .last .depths) (c .settle .last .holders) (c .settle .last .flows) (c .pre .tabled) (state .depths-are) (state .holding) k h);
       past = state .past;
       within = state .within;
     }
