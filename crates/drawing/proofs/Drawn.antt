@@ -35,9 +35,9 @@ behind-is b k = λ i. record {
 module _ (b : List ℕ) (ws : List Wire) (long : length ws ≡ wires-in b) (read : (k : ℕ) → k < wires-in b → getD ws k no-wire ≡ wire-in b k) where
   at : (k : ℕ) → getD ws k no-wire ≡ wire-or-none b k
   at k = ⊎-elim
-    (λ l. read k l ∙ sym (cond-true (ltb k (wires-in b)) (wire-in b k) no-wire (lt-ltb k (wires-in b) l)))
-    (λ l. getD-past ws k no-wire (omega arith) ∙ sym (cond-false (ltb k (wires-in b)) (wire-in b k) no-wire (le-ltb k (wires-in b) l)))
-    (cases-lt k (wires-in b))
+      (λ l. read k l ∙ sym (cond-true (ltb k (wires-in b)) (wire-in b k) no-wire (lt-ltb k (wires-in b) l)))
+      (λ l. getD-past ws k no-wire (omega arith) ∙ sym (cond-false (ltb k (wires-in b)) (wire-in b k) no-wire (le-ltb k (wires-in b) l)))
+      (cases-lt k (wires-in b))
 
   pub drawn-is : wired (gates-in b) (λ g. ltb g (pins-in b)) ws ≡ drawn b
   drawn-is = λ i. record {

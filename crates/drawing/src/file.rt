@@ -80,7 +80,11 @@ pub(crate) struct Parsed {
     wires: [Wire; 4096],
 }
 
-const NO_WIRE: Wire = Wire { driver: 0, driven: 0, count: 0 };
+const NO_WIRE: Wire = Wire {
+    driver: 0,
+    driven: 0,
+    count: 0,
+};
 
 fn parse(bytes: &[u8]) -> Result<Parsed, CheckFault>
     ensures { λ r. ⌜ Cases r (Parsed-from (now (bytes .entry))) (Refuses (now (bytes .entry))) ⌝ }

@@ -47,7 +47,6 @@ module _ {gates : ℕ} {links : List Link} {lags : List ℤ} {depths : List ℕ}
 
 module _ (way : Way) (gates : ℕ) (links : List Link) (fixed : List Bool) (first lags : List ℤ) (depths holders row marks : List ℕ) (by : ℕ) (tabled : Tabled gates links) (state : State way gates links fixed first lags depths holders row)
     (stuck : Stuck way gates links fixed depths holders row marks) (some : 0 < by) (slack : Slack way links depths holders marks by) where
-
   cert : Certificate (under (table gates links) (lags-of lags)) (bundles links) (shares links holders) (flows row)
   cert = holding-certificate gates links lags depths holders row tabled (state .depths-are) (state .holding)
 
@@ -59,9 +58,9 @@ module _ (way : Way) (gates : ℕ) (links : List Link) (fixed : List Bool) (firs
     counts = λ i h to from. rw (depth-is (state .depths-are) i h) (slack i h .counts (seen _ true (tabled .drivens i h) to) (seen _ false (tabled .drivers i h) from));
     flows = flows-stay way gates links fixed depths holders row marks tabled (state .holding) stuck;
     shares = λ i j hi hj picked fellow from to.
-      let held : holder links holders j ≡ i = ap (λ b. getD holders b 0) (eqb-true _ _ (and-parts _ _ fellow .1)) ∙ shares-holder links holders i picked in
-      let ahead = slack j hj .shares (subst (λ (k : ℕ). to-beyond way links marks k ≡ true) (sym held) (seen _ true (tabled .drivens i hi) from)) (seen _ false (tabled .drivens j hj) to) in
-      rw (depth-is (state .depths-are) i hi, depth-is (state .depths-are) j hj) (subst (λ (k : ℕ). getD depths j 0 + by ≤ getD depths k 0) held ahead);
+        let held : holder links holders j ≡ i = ap (λ b. getD holders b 0) (eqb-true _ _ (and-parts _ _ fellow .1)) ∙ shares-holder links holders i picked in
+        let ahead = slack j hj .shares (subst (λ (k : ℕ). to-beyond way links marks k ≡ true) (sym held) (seen _ true (tabled .drivens i hi) from)) (seen _ false (tabled .drivens j hj) to) in
+        rw (depth-is (state .depths-are) i hi, depth-is (state .depths-are) j hj) (subst (λ (k : ℕ). getD depths j 0 + by ≤ getD depths k 0) held ahead);
   }
 
   reached : Reached-set way (table gates links) (bundles links) (fixed-of fixed) (shares links holders) (flows row) (lags-of lags) (inside gates marks) by
@@ -72,7 +71,6 @@ module _ (way : Way) (gates : ℕ) (links : List Link) (fixed : List Bool) (firs
     closed = closed-from way (under (table gates links) (lags-of lags)) (bundles links) (shares links holders) (flows row) (inside gates marks) by closed;
     tied = λ g h i. tied-under (state .depths-are) (shares links holders) (flows row) (stuck .tied g h i);
   }
-
 
   -- some permitted lags need fewer
   pub better : Better gates links fixed first lags
@@ -112,7 +110,7 @@ module _ (way : Way) (gates : ℕ) (links : List Link) (fixed : List Bool) (firs
         is-wire = state .holding .is-wire;
         same-bundle = state .holding .same-bundle;
         deepest = λ k h. let i = holder links holders k in let hi = state .holding .is-wire k h in
-          rw (← depth-is deeps k h, ← depth-is deeps i hi) (pushed .certificate .deepest i k hi h (holder-shares links depths holders row (state .holding) k h) (fellows gates links depths tabled k i h hi (sym (state .holding .same-bundle k h))));
+            rw (← depth-is deeps k h, ← depth-is deeps i hi) (pushed .certificate .deepest i k hi h (holder-shares links depths holders row (state .holding) k h) (fellows gates links depths tabled k i h hi (sym (state .holding .same-bundle k h))));
         dry = λ k h wet. pushed .certificate .dry k h (rw (depth-is deeps k h) wet);
         small = state .holding .small;
       };

@@ -36,7 +36,7 @@ module _ (way : Way) (gates : ℕ) (links : List Link) (fixed : List Bool) (dept
       let a = number (length links) m in
       let is = numbered-number (length links) m h in
       subst (λ (x : Move). inside gates marks (arc-to way links holders x) ≡ true) is
-        (stuck .closed a (number-within (length links) m h) (rw is opened) (subst (λ (x : Move). inside gates marks (arc-from way links holders x) ≡ true) (sym is) from))
+      (stuck .closed a (number-within (length links) m h) (rw is opened) (subst (λ (x : Move). inside gates marks (arc-from way links holders x) ≡ true) (sym is) from))
 
   pub side-stays : (m : Move) → wire-of m < length links → possible links depths holders row m ≡ true → side way (inside gates marks) (source links holders m) ≡ true → side way (inside gates marks) (sink links m) ≡ true
   side-stays m h opened = go way (moves-stay m h opened)

@@ -32,7 +32,7 @@ module _ (gates : ℕ) (links : List Link) (fixed : List Bool) (lags : List ℤ)
   pub better-from : (way : Way) → Improves way gates links fixed depths holders row → Better gates links fixed lags lags
   better-from way found =
       better way gates links fixed lags lags depths holders row (found .0) 1 tabled (state-first way gates links fixed lags depths holders row tabled standing deeps holding) (found .1) (omega arith)
-        (slack-one way gates links fixed depths holders row (found .0) tabled holding (found .1))
+      (slack-one way gates links fixed depths holders row (found .0) tabled holding (found .1))
 
   pub decided : (r : Bool) → All-done Forward gates links fixed holders row → When r (All-done Back gates links fixed holders row) (Improves Back gates links fixed depths holders row) → When r (Witness (under (table gates links) (lags-of lags)) (bundles links) (fixed-of fixed) (shares links holders) (flows row)) (Better gates links fixed lags lags)
   decided true one two = witness-from one two

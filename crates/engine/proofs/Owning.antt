@@ -12,7 +12,6 @@ use Rattle.engine.specs.declared.link.Link.{Link}
 use Rattle.engine.specs.Fit.{All-sized, One-driver}
 use Rattle.engine.specs.Table.{no-link}
 
-
 -- of the first k wires each bundle's owner is the driver, and an owner is the driver of such a wire
 pub record Owned (links : List Link) (owners : List ℕ) (k : ℕ) : Type 0 where
   pub long : length owners ≡ 4096

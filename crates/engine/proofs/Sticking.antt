@@ -35,7 +35,6 @@ inside-parts gates marks g i = let p = and-parts _ _ i in (ltb-true g gates (p .
 
 module _ (way : Way) (gates : ℕ) (links : List Link) (fixed : List Bool) (depths holders row gains costs : List ℕ)
     (tabled : Tabled gates links) (holding : Holding links depths holders row) (priced : Priced gates links holders row gains costs) where
-
   over-from : (g : ℕ) → g < gates → Excess way (getD gains g 0) (getD costs g 0) → Over way gates links holders row g
   over-from g l e = subst₂ (λ (x y : ℕ). Excess way x y) (priced .gains-are g l) (priced .costs-are g l) e
 

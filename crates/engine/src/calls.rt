@@ -14,7 +14,13 @@ use retiming::way::Way;
 
 // Moves the lags one way to where the fewest registers are needed, as near as that can be had. Answers the registers
 // needed before and after.
-pub fn fewest(way: Way, gates: usize, links: &[Link], fixed: &[bool], lags: &mut [i32]) -> Result<(u64, u64), TableFault>
+pub fn fewest(
+    way: Way,
+    gates: usize,
+    links: &[Link],
+    fixed: &[bool],
+    lags: &mut [i32],
+) -> Result<(u64, u64), TableFault>
     ensures { λ r. ⌜ Cases r (λ t. Fewest way gates (now (links .entry)) (now (fixed .entry)) (now (lags .entry)) (now (lags .exit)) (t .0) (t .1)) (Refused gates (now (links .entry)) (now (fixed .entry)) (now (lags .entry)) (now (lags .exit))) ⌝ }
 {
     if !is_fit(gates, links, fixed, lags) {
@@ -25,7 +31,14 @@ pub fn fewest(way: Way, gates: usize, links: &[Link], fixed: &[bool], lags: &mut
 
 // Decides, at unchanged lags, whether any permitted lags at all need fewer registers. If none do, it answers true and
 // writes the witness: a share and a flow for each wire.
-pub fn decide(gates: usize, links: &[Link], fixed: &[bool], lags: &[i32], shares: &mut [u16], flows: &mut [u16]) -> Result<bool, TableFault>
+pub fn decide(
+    gates: usize,
+    links: &[Link],
+    fixed: &[bool],
+    lags: &[i32],
+    shares: &mut [u16],
+    flows: &mut [u16],
+) -> Result<bool, TableFault>
     ensures { λ r. ⌜ Cases r (λ b. Decided gates (now (links .entry)) (now (fixed .entry)) (now (lags .entry)) (now (shares .entry)) (now (flows .entry)) (now (shares .exit)) (now (flows .exit)) b) (Undecided gates (now (links .entry)) (now (fixed .entry)) (now (lags .entry)) (now (shares .entry)) (now (flows .entry)) (now (shares .exit)) (now (flows .exit))) ⌝ }
 {
     if !is_fit(gates, links, fixed, lags) {

@@ -16,7 +16,10 @@ use crate::rows::needed;
 fn is_sized(gates: usize, link: Link) -> bool
     ensures { λ r. ⌜ When r (Sized gates link) (Sized gates link → ⊥) ⌝ }
 {
-    (link.driver as usize) < gates && (link.driven as usize) < gates && link.bundle < 4096 && link.count <= 1_048_575
+    (link.driver as usize) < gates
+        && (link.driven as usize) < gates
+        && link.bundle < 4096
+        && link.count <= 1_048_575
 }
 
 fn are_sized(gates: usize, links: &[Link]) -> bool

@@ -14,7 +14,14 @@ use crate::settle::balance;
 use retiming::way::Way;
 
 // Balances the gates both ways at the lags as they are. Answers whether that leaves a witness in the rows.
-pub(crate) fn balanced(gates: usize, links: &[Link], fixed: &[bool], lags: &[i32], holders: &mut [u16], flow: &mut [u16]) -> bool
+pub(crate) fn balanced(
+    gates: usize,
+    links: &[Link],
+    fixed: &[bool],
+    lags: &[i32],
+    holders: &mut [u16],
+    flow: &mut [u16],
+) -> bool
     requires tabled { ⌜ Tabled gates (now links) ⌝ }
     requires fixed { ⌜ gates ≤ length (now fixed) ⌝ }
     requires standing { ⌜ Standing gates (now links) (now lags) ⌝ }

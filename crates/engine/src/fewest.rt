@@ -25,7 +25,14 @@ fn wipe(count: usize, row: &mut [u16])
 }
 
 // The counts under the lags, with shares to go by them and no flow yet.
-pub(crate) fn begin(gates: usize, links: &[Link], lags: &[i32], depths: &mut [u32], holders: &mut [u16], flows: &mut [u16])
+pub(crate) fn begin(
+    gates: usize,
+    links: &[Link],
+    lags: &[i32],
+    depths: &mut [u32],
+    holders: &mut [u16],
+    flows: &mut [u16],
+)
     requires tabled { ⌜ Tabled gates (now links) ⌝ }
     requires standing { ⌜ Standing gates (now links) (now lags) ⌝ }
     requires depths { ⌜ length (now links) ≤ length (now depths) ⌝ }
@@ -41,7 +48,13 @@ pub(crate) fn begin(gates: usize, links: &[Link], lags: &[i32], depths: &mut [u3
 
 // Moves the lags the way's way to where the fewest registers are needed, as near as that can be had. Answers the
 // registers needed before and after.
-pub(crate) fn seek(way: Way, gates: usize, links: &[Link], fixed: &[bool], lags: &mut [i32]) -> (u64, u64)
+pub(crate) fn seek(
+    way: Way,
+    gates: usize,
+    links: &[Link],
+    fixed: &[bool],
+    lags: &mut [i32],
+) -> (u64, u64)
     requires tabled { ⌜ Tabled gates (now links) ⌝ }
     requires fixed { ⌜ gates ≤ length (now fixed) ⌝ }
     requires standing { ⌜ Standing gates (now links) (now lags) ⌝ }
@@ -56,7 +69,16 @@ pub(crate) fn seek(way: Way, gates: usize, links: &[Link], fixed: &[bool], lags:
     let mut flows = [0u16; 4096];
     begin(gates, links, lags, &mut depths, &mut holders, &mut flows);
     let before = needed(gates, links, &depths, &holders);
-    settle(way, gates, links, fixed, lags, &mut depths, &mut holders, &mut flows);
+    settle(
+        way,
+        gates,
+        links,
+        fixed,
+        lags,
+        &mut depths,
+        &mut holders,
+        &mut flows,
+    );
     let after = needed(gates, links, &depths, &holders);
     (before, after)
 }

@@ -36,7 +36,14 @@ fn is_seed(way: Way, fixed: bool, gain: u32, cost: u32) -> bool
 }
 
 // Marks 1 the gates that may move and have a surplus to move, and 0 the others. Answers the last of them.
-pub(crate) fn mark_seeds(way: Way, gates: usize, fixed: &[bool], gains: &[u32], costs: &[u32], marks: &mut [u8]) -> Option<usize>
+pub(crate) fn mark_seeds(
+    way: Way,
+    gates: usize,
+    fixed: &[bool],
+    gains: &[u32],
+    costs: &[u32],
+    marks: &mut [u8],
+) -> Option<usize>
     requires fixed { ⌜ gates ≤ length (now fixed) ⌝ }
     requires gains { ⌜ gates ≤ length (now gains) ⌝ }
     requires costs { ⌜ gates ≤ length (now costs) ⌝ }
@@ -57,7 +64,14 @@ pub(crate) fn mark_seeds(way: Way, gates: usize, fixed: &[bool], gains: &[u32], 
 }
 
 // A marked gate that takes a surplus: a fixed one, or one that lacks a surplus.
-pub(crate) fn find_sink(way: Way, gates: usize, fixed: &[bool], gains: &[u32], costs: &[u32], marks: &[u8]) -> Option<usize>
+pub(crate) fn find_sink(
+    way: Way,
+    gates: usize,
+    fixed: &[bool],
+    gains: &[u32],
+    costs: &[u32],
+    marks: &[u8],
+) -> Option<usize>
     requires fixed { ⌜ gates ≤ length (now fixed) ⌝ }
     requires gains { ⌜ gates ≤ length (now gains) ⌝ }
     requires costs { ⌜ gates ≤ length (now costs) ⌝ }

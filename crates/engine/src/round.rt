@@ -19,7 +19,16 @@ use graph::reach::trace;
 use retiming::way::Way;
 
 // Marks each gate to which open arcs lead from the marked gates, and leaves how many arcs it took.
-fn follow<'a>(way: Way, gates: usize, links: &'a [Link], depths: &'a [u32], holders: &'a [u16], flows: &'a [u16], marks: &mut [u8], hops: &mut [u16])
+fn follow<'a>(
+    way: Way,
+    gates: usize,
+    links: &'a [Link],
+    depths: &'a [u32],
+    holders: &'a [u16],
+    flows: &'a [u16],
+    marks: &mut [u8],
+    hops: &mut [u16],
+)
     requires tabled { ⌜ Tabled gates (now links) ⌝ }
     requires holding { ⌜ Holding (now links) (now depths) (now holders) (now flows) ⌝ }
     requires depths { ⌜ length (now links) ≤ length (now depths) ⌝ }
@@ -27,13 +36,29 @@ fn follow<'a>(way: Way, gates: usize, links: &'a [Link], depths: &'a [u32], hold
     requires hops { ⌜ gates ≤ length (now hops) ⌝ }
     ensures { λ _. ⌜ ((n : ℕ) × Traced (leftover way gates (now (links .entry)) (now (depths .entry)) (now (holders .entry)) (now (flows .entry))) (now (marks .entry)) (now (hops .entry)) (now (marks .exit)) (now (hops .exit)) n) ⌝ }
 {
-    let left = Leftover { way, gates, links, depths, holders, flows };
+    let left = Leftover {
+        way,
+        gates,
+        links,
+        depths,
+        holders,
+        flows,
+    };
     let _ = trace(&left, marks, hops);
 }
 
 // One round: prices the gates, marks those with a surplus and what they reach, and carries one unit if a gate that
 // takes it is reached.
-pub(crate) fn round(way: Way, gates: usize, links: &[Link], fixed: &[bool], depths: &[u32], holders: &mut [u16], flows: &mut [u16], marks: &mut [u8]) -> Outcome
+pub(crate) fn round(
+    way: Way,
+    gates: usize,
+    links: &[Link],
+    fixed: &[bool],
+    depths: &[u32],
+    holders: &mut [u16],
+    flows: &mut [u16],
+    marks: &mut [u8],
+) -> Outcome
     requires tabled { ⌜ Tabled gates (now links) ⌝ }
     requires holding { ⌜ Holding (now links) (now depths) (now holders) (now flows) ⌝ }
     requires fixed { ⌜ gates ≤ length (now fixed) ⌝ }
@@ -52,7 +77,17 @@ pub(crate) fn round(way: Way, gates: usize, links: &[Link], fixed: &[bool], dept
     match find_sink(way, gates, fixed, &gains, &costs, marks) {
         None => Outcome::Stuck,
         Some(sink) => {
-            carry(way, gates, links, depths, holders, flows, marks, &hops, sink);
+            carry(
+                way,
+                gates,
+                links,
+                depths,
+                holders,
+                flows,
+                marks,
+                &hops,
+                sink,
+            );
             Outcome::Carried
         }
     }

@@ -18,7 +18,16 @@ use retiming::way::Way;
 
 // Moves the lags the way's way until that saves no register more. Each stuck set moves as far as it can at once,
 // and shares and flows go on from there.
-pub(crate) fn settle(way: Way, gates: usize, links: &[Link], fixed: &[bool], lags: &mut [i32], depths: &mut [u32], holders: &mut [u16], flows: &mut [u16])
+pub(crate) fn settle(
+    way: Way,
+    gates: usize,
+    links: &[Link],
+    fixed: &[bool],
+    lags: &mut [i32],
+    depths: &mut [u32],
+    holders: &mut [u16],
+    flows: &mut [u16],
+)
     requires tabled { ⌜ Tabled gates (now links) ⌝ }
     requires fixed { ⌜ gates ≤ length (now fixed) ⌝ }
     requires within { ⌜ Within gates (now links) 1048575 (now lags) ⌝ }
@@ -42,7 +51,15 @@ pub(crate) fn settle(way: Way, gates: usize, links: &[Link], fixed: &[bool], lag
 
 // Carries surpluses at unchanged lags, one unit a round. Answers whether none is left that the way moves; if one is,
 // some permitted lags need fewer registers.
-pub(crate) fn balance(way: Way, gates: usize, links: &[Link], fixed: &[bool], depths: &[u32], holders: &mut [u16], flows: &mut [u16]) -> bool
+pub(crate) fn balance(
+    way: Way,
+    gates: usize,
+    links: &[Link],
+    fixed: &[bool],
+    depths: &[u32],
+    holders: &mut [u16],
+    flows: &mut [u16],
+) -> bool
     requires tabled { ⌜ Tabled gates (now links) ⌝ }
     requires fixed { ⌜ gates ≤ length (now fixed) ⌝ }
     requires depths { ⌜ length (now links) ≤ length (now depths) ⌝ }

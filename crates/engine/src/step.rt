@@ -24,7 +24,15 @@ fn is_beyond(way: Way, mark: u8) -> bool
 const FAR: u32 = 2_097_152;
 
 // How far the marked gates can move before wire k leaves no slack.
-fn slack_at(way: Way, gates: usize, links: &[Link], depths: &[u32], holders: &[u16], marks: &[u8], k: usize) -> u32
+fn slack_at(
+    way: Way,
+    gates: usize,
+    links: &[Link],
+    depths: &[u32],
+    holders: &[u16],
+    marks: &[u8],
+    k: usize,
+) -> u32
     requires tabled { ⌜ Tabled gates (now links) ⌝ }
     requires depths { ⌜ length (now links) ≤ length (now depths) ⌝ }
     requires holders { ⌜ 4096 ≤ length (now holders) ⌝ }
@@ -48,7 +56,14 @@ fn slack_at(way: Way, gates: usize, links: &[Link], depths: &[u32], holders: &[u
 }
 
 // How far the marked gates can move as one.
-pub(crate) fn slack(way: Way, gates: usize, links: &[Link], depths: &[u32], holders: &[u16], marks: &[u8]) -> u32
+pub(crate) fn slack(
+    way: Way,
+    gates: usize,
+    links: &[Link],
+    depths: &[u32],
+    holders: &[u16],
+    marks: &[u8],
+) -> u32
     requires tabled { ⌜ Tabled gates (now links) ⌝ }
     requires depths { ⌜ length (now links) ≤ length (now depths) ⌝ }
     requires holders { ⌜ 4096 ≤ length (now holders) ⌝ }

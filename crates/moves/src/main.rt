@@ -34,14 +34,29 @@ fn moved(heap: Global, net: &Wiring) -> Result<String, AnyError> {
     let fixed = pins_of(heap, net)?;
     let gates = net.gate_count();
     let mut lags = vec![in heap; 0i32; gates]?;
-    let (before, _) = settled(Way::Forward, links.as_slice(), fixed.as_slice(), lags.as_mut_slice())?;
-    let (_, after) = settled(Way::Back, links.as_slice(), fixed.as_slice(), lags.as_mut_slice())?;
+    let (before, _) = settled(
+        Way::Forward,
+        links.as_slice(),
+        fixed.as_slice(),
+        lags.as_mut_slice(),
+    )?;
+    let (_, after) = settled(
+        Way::Back,
+        links.as_slice(),
+        fixed.as_slice(),
+        lags.as_mut_slice(),
+    )?;
     let moves = lag_lines(heap, lags.as_slice())?;
     Ok(format!(heap, "regs {before} {after}\n{moves}")?)
 }
 
 // One way, for as many gates as there are lags.
-fn settled(way: Way, links: &[Link], fixed: &[bool], lags: &mut [i32]) -> Result<(u64, u64), AnyError> {
+fn settled(
+    way: Way,
+    links: &[Link],
+    fixed: &[bool],
+    lags: &mut [i32],
+) -> Result<(u64, u64), AnyError> {
     let gates = lags.len();
     match fewest(way, gates, links, fixed, lags) {
         Ok(answer) => Ok(answer),
@@ -54,7 +69,12 @@ fn link_of(net: &Wiring, k: usize) -> Result<Link, AnyError> {
     let (driver, driven, count) = net.wire(k);
     let driver = u16::try_from(driver)?;
     let driven = u16::try_from(driven)?;
-    Ok(Link { driver, driven, count, bundle: driver })
+    Ok(Link {
+        driver,
+        driven,
+        count,
+        bundle: driver,
+    })
 }
 
 fn links_of(heap: Global, net: &Wiring) -> Result<Vec<Link>, AnyError> {

@@ -19,8 +19,8 @@ and-true false = refl
 module _ (n : Net) where
   shared : (bound : ℕ) → 0 < bound → sofar bound n (λ _ _ _. 0) (n .wires) ≡ shared-sum n
   shared bound some = total-same _ _ (n .gates) (λ g _.
-    total-only (λ m. greatest (together n (λ _ _ _. 0) g m) (n .count) (n .wires)) bound 0 some (λ m _ other. greatest-none _ (n .count) (n .wires) (λ k _. and-right _ _ (ne-eqb 0 m (λ e. other (sym e)))))
-    ∙ greatest-same _ _ (n .count) (n .wires) (λ k _. and-true (eqb (n .driver k) g)))
+      total-only (λ m. greatest (together n (λ _ _ _. 0) g m) (n .count) (n .wires)) bound 0 some (λ m _ other. greatest-none _ (n .count) (n .wires) (λ k _. and-right _ _ (ne-eqb 0 m (λ e. other (sym e)))))
+      ∙ greatest-same _ _ (n .count) (n .wires) (λ k _. and-true (eqb (n .driver k) g)))
 
   pub share-all-is : tally-of n (λ _ _ _. 0) ≡ shared-sum n
   unfolding tally-of

@@ -10,7 +10,13 @@ use crate::rule::ShareAllSharing;
 use crate::rule::Sharing;
 
 // The greatest count among the wires before `wire` that leave `driver` under `mark`.
-fn deepest_before<N: Netlist, S: Sharing>(net: &N, rule: &S, wire: usize, driver: usize, mark: usize) -> u32
+fn deepest_before<N: Netlist, S: Sharing>(
+    net: &N,
+    rule: &S,
+    wire: usize,
+    driver: usize,
+    mark: usize,
+) -> u32
     ensures { λ r. ⌜ r ≡ greatest (together (meaning (now (net .entry))) (marking (now (rule .entry))) driver mark) (meaning (now (net .entry)) .count) wire ⌝ }
 {
     let mut deepest = 0;

@@ -19,5 +19,4 @@ pub fn both_ways_suffice()
 
 pub fn weight_bounds()
     ensures { λ _. ⌜ Weight-bounds ⌝ }
-{
-}
+{}

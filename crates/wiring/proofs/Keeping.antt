@@ -23,8 +23,11 @@ kept-wires gates pinned ws vs pass copied =
     let net = wired gates pinned ws in
     let held : Kept gates ws = (
       λ k l. ends-of net k (pass .ends k l),
-      (λ k l. ⊎-elim (λ over. absurd (pass .counts k l over)) (λ h. h) (cases-lt 1048575 (net .count k)),
-      (λ k r. pass .rounds k (r .is-wire) (repinned gates (λ _. false) pinned ws k r), tt))) in
+      (
+        λ k l. ⊎-elim (λ over. absurd (pass .counts k l over)) (λ h. h) (cases-lt 1048575 (net .count k)),
+        (λ k r. pass .rounds k (r .is-wire) (repinned gates (λ _. false) pinned ws k r), tt),
+      ),
+    ) in
     subst (Kept gates) (sym copied) held
 
 -- pins have no say in the check

@@ -27,9 +27,9 @@ module _ (g : Digraph) (size from : ℕ) (node : from < g .nodes) (room : g .nod
 
   marked-is : (v : ℕ) → Marked g start v → v ≡ from
   marked-is v m = elim (cases-eq v from) [
-      inl e ↦ e
+    | inl e ↦ e
     | inr other ↦ let clear : getD start v 0 ≡ 0 = getD-set-other (replicate size 0) from v 1 0 other ∙ getD-replicate size v 0 0 (omega (arith, m .0)) in absurd (omega (arith, clear, m .1))
-    ]
+  ]
 
   is-marked : (v : ℕ) → v ≡ from → Marked g start v
   is-marked v e = subst (Marked g start) (sym e) (node, omega (arith, getD-set-same {A = ℕ} (replicate size 0) from 1 0 (simp length-replicate (omega arith))))

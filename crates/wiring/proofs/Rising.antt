@@ -13,7 +13,6 @@ use Rattle.wiring.specs.Levels.{Rises}
 use Rattle.wiring.specs.Wires.{wired, No-free-round}
 
 module _ (gates : ℕ) (ws : List Wire) (levels : List ℕ) (rises : Rises ws levels) where
-
   no-fall : (u v : ℕ) → Leads (graph-of (wired gates (λ _. false) ws)) u v → getD levels u 0 ≤ getD levels v 0
   no-fall u v (Reached.begin e) = omega (arith, ap (λ g. getD levels g 0) e)
   no-fall u v (Reached.along a is-wire is-open enters r) =

@@ -13,9 +13,9 @@ ghost use Rattle.wiring.specs.Levels.{Rises};
 ghost use Rattle.wiring.specs.Wires.{wired, No-free-round};
 ghost use Rattle.wiring.specs.Wiring.{wires-graph};
 use crate::fault::CheckFault;
-use crate::wire::Wire;
 use crate::lent::Wires;
 use crate::lent::questions::WiresGraph;
+use crate::wire::Wire;
 use graph::reach::search;
 
 // The lowest wire of which an end is no gate.

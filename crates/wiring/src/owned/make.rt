@@ -11,8 +11,8 @@ ghost use Rattle.wiring.specs.List.{no-gates, Opens-pinned};
 ghost use Rattle.wiring.specs.Wires.{wired};
 ghost use Rattle.wiring.specs.Wiring.{wiring-net};
 use crate::check::check_up_to;
-use crate::wire::Wire;
 use crate::owned::Wiring;
+use crate::wire::Wire;
 use std::alloc::AllocError;
 use std::alloc::Global;
 
@@ -42,7 +42,10 @@ impl Wiring {
     pub fn empty(heap: Global) -> Wiring
         ensures { λ w. ⌜ wiring-net w ≡ no-gates ⌝ }
     {
-        Wiring { pins: Vec::new(heap), wires: Vec::new(heap) }
+        Wiring {
+            pins: Vec::new(heap),
+            wires: Vec::new(heap),
+        }
     }
 
     // The netlist of a list of wires, with a pin or none for each gate. It never refuses: a list that has a fault

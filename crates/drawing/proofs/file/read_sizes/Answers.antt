@@ -7,14 +7,16 @@ use Rattle.drawing.proofs.file.read_sizes.Needs as need
 
 pub returns : need.returns
 returns c =
-    let long : 6 ≤ length (c .args .bytes .now) = search needs in
-    (record {
-      sized = record {
-        long = long;
-        fits = record { gates-fit = omega arith; wires-fit = omega arith; pins-fit = omega arith };
-        exact = omega (arith, simp (length-take, length-drop) at (c .if-rest-wires .left));
-      };
-      gates-are = omega arith;
-      pins-are = omega arith;
-      wires-are = omega arith;
-    }, take-rest (c .args .bytes .now) 6)
+    let long : 6 ≤ length (c .args .bytes .now) = search needs in (
+      record {
+        sized = record {
+          long = long;
+          fits = record { gates-fit = omega arith; wires-fit = omega arith; pins-fit = omega arith };
+          exact = omega (arith, simp (length-take, length-drop) at (c .if-rest-wires .left));
+        };
+        gates-are = omega arith;
+        pins-are = omega arith;
+        wires-are = omega arith;
+      },
+      take-rest (c .args .bytes .now) 6,
+    )

@@ -14,7 +14,7 @@ returns c =
       flows-long = c .if-flows-links .left;
       verdict = record {
         witness = witness-same (under (table (c .args .gates) links) (lags-of (c .args .lags .now))) (bundles links) (fixed-of (c .args .fixed .now)) (shares links (c .balanced .last .holders)) (flows (c .balanced .last .flow)) (flows (c .write-shares .last .row)) (flows (c .copy-front .last .row))
-          (c .write-shares .ensures .written) (c .copy-front .ensures .written) (c .if-not-balanced .ensures tt);
+            (c .write-shares .ensures .written) (c .copy-front .ensures .written) (c .if-not-balanced .ensures tt);
         shares-past = c .write-shares .ensures .past;
         flows-past = c .copy-front .ensures .past;
       };

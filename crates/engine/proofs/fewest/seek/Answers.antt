@@ -24,7 +24,7 @@ returns c =
     let after = c .needed-after .ensures (c .settle .last .lags) (c .settle .last .flows) (state .depths-are) (state .holding) in
     record {
       nearest = subst₂ (λ (a b : ℕ). Nearest (c .args .way) (table gates links) (bundles links) (fixed-of (c .args .fixed .now)) (lags-of (c .args .lags .now)) (lags-of (c .settle .last .lags)) a b) (sym before) (sym after)
-        (state-last (c .args .way) gates links (c .args .fixed .now) (c .args .lags .now) (c .settle .last .lags) (c .settle .last .depths) (c .settle .last .holders) (c .settle .last .flows) (c .pre .tabled) state (c .settle .ensures .done));
+          (state-last (c .args .way) gates links (c .args .fixed .now) (c .args .lags .now) (c .settle .last .lags) (c .settle .last .depths) (c .settle .last .holders) (c .settle .last .flows) (c .pre .tabled) state (c .settle .ensures .done));
       counts = λ k h. rw after (depth-le-needs gates links (c .settle .last .lags) (c .settle .last .depths) (c .settle .last .holders) (c .settle .last .flows) (c .pre .tabled) (state .depths-are) (state .holding) k h);
       past = state .past;
       within = state .within;

@@ -9,6 +9,6 @@ pub loop-g-again : need.loop-g-again
 loop-g-again c =
     let room : c .loop-g .g < length (c .loop-g .marks) = omega arith in
     elim (c .if-is-seed .came) [
-      then-is-seed w ↦ rw (w .marks-is, w .found-is) (marks-seed (c .args .way) (c .args .fixed .now) (c .args .gains .now) (c .args .costs .now) (c .loop-g .marks) (c .loop-g .found) (c .loop-g .g) room (c .loop-g .inv) (w .if-is-seed .ensures tt))
-    | else-is-seed w ↦ rw (w .marks-is, w .found-is) (marks-idle (c .args .way) (c .args .fixed .now) (c .args .gains .now) (c .args .costs .now) (c .loop-g .marks) (c .loop-g .found) (c .loop-g .g) room (c .loop-g .inv) (w .if-is-seed .ensures tt))
+      | then-is-seed w ↦ rw (w .marks-is, w .found-is) (marks-seed (c .args .way) (c .args .fixed .now) (c .args .gains .now) (c .args .costs .now) (c .loop-g .marks) (c .loop-g .found) (c .loop-g .g) room (c .loop-g .inv) (w .if-is-seed .ensures tt))
+      | else-is-seed w ↦ rw (w .marks-is, w .found-is) (marks-idle (c .args .way) (c .args .fixed .now) (c .args .gains .now) (c .args .costs .now) (c .loop-g .marks) (c .loop-g .found) (c .loop-g .g) room (c .loop-g .inv) (w .if-is-seed .ensures tt))
     ]

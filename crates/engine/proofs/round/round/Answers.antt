@@ -23,9 +23,12 @@ carry-requires c κs =
 pub returns-in-None : need.returns-in-None
 returns-in-None c =
     let trace = c .follow .ensures in
-    let seed = c .in-Some .ensures tt .found in
-    (refl, refl, stuck-from (c .args .way) (c .args .gates) (c .args .links .now) (c .args .fixed .now) (c .args .depths .now) (c .args .holders .now) (c .args .flows .now) (c .price .last .gains) (c .price .last .costs) (c .pre .tabled) (c .pre .holding) (c .price .ensures) (c .args .marks .now) (c .mark-seeds .last .marks) (c .follow .last .marks) (trace .0) (c .mark-seeds .ensures .seeded) (trace .1 .searched)
-        (arc-within (c .args .way) (c .args .gates) (c .args .links .now) (c .args .depths .now) (c .args .holders .now) (c .args .flows .now) (c .pre .tabled) (c .pre .holding)) (c .in-None .ensures tt) (c .in-Some .-seed) (seed .0) (seed .1))
+    let seed = c .in-Some .ensures tt .found in (
+      refl,
+      refl,
+      stuck-from (c .args .way) (c .args .gates) (c .args .links .now) (c .args .fixed .now) (c .args .depths .now) (c .args .holders .now) (c .args .flows .now) (c .price .last .gains) (c .price .last .costs) (c .pre .tabled) (c .pre .holding) (c .price .ensures) (c .args .marks .now) (c .mark-seeds .last .marks) (c .follow .last .marks) (trace .0) (c .mark-seeds .ensures .seeded) (trace .1 .searched)
+          (arc-within (c .args .way) (c .args .gates) (c .args .links .now) (c .args .depths .now) (c .args .holders .now) (c .args .flows .now) (c .pre .tabled) (c .pre .holding)) (c .in-None .ensures tt) (c .in-Some .-seed) (seed .0) (seed .1),
+    )
 
 pub returns-in-Some-find-sink : need.returns-in-Some-find-sink
 returns-in-Some-find-sink c =

@@ -19,7 +19,7 @@ loop-g-again c =
     let room : g < length lags = omega arith in
     let fits : SFits w32 (lags-of lags g) = search needs in
     elim (c .if-marks-g-eq1 .came) [
-      then-marks-g-eq1 w ↦ let out : SFits w32 (w .pushed .result) = search needs in
-        rw (w .lags-is) (moved-marked (c .args .way) (c .args .by) (c .args .marks .now) (c .args .lags .now) lags g (c .loop-g .inv) _ room (w .if-marks-g-eq1 .taken) (toZ-ofZ out ∙ w .pushed .ensures ∙ ap (push (c .args .way) (c .args .by)) (toZ-ofZ fits)))
-    | else-marks-g-eq1 w ↦ rw (w .lags-is) (moved-unmarked (c .args .way) (c .args .by) (c .args .marks .now) (c .args .lags .now) lags g (c .loop-g .inv) (w .if-marks-g-eq1 .left))
+      | then-marks-g-eq1 w ↦ let out : SFits w32 (w .pushed .result) = search needs in
+          rw (w .lags-is) (moved-marked (c .args .way) (c .args .by) (c .args .marks .now) (c .args .lags .now) lags g (c .loop-g .inv) _ room (w .if-marks-g-eq1 .taken) (toZ-ofZ out ∙ w .pushed .ensures ∙ ap (push (c .args .way) (c .args .by)) (toZ-ofZ fits)))
+      | else-marks-g-eq1 w ↦ rw (w .lags-is) (moved-unmarked (c .args .way) (c .args .by) (c .args .marks .now) (c .args .lags .now) lags g (c .loop-g .inv) (w .if-marks-g-eq1 .left))
     ]

@@ -12,9 +12,9 @@ loop-k-again g c =
     let pass-driver = deepest-pass-driver n mark (c .args .driver) (c .args .mark) (c .loop-k .k) (c .wire-u .result) (c .wire-u .ensures .value) in
     let pass-mark = deepest-pass-mark n mark (c .args .driver) (c .args .mark) (c .loop-k .k) (c .wire-u .result) (c .wire-u .ensures .value) in
     elim (c .if-u-driver .came) [
-      then-u-driver·then-mark w ↦ w .deepest-is ∙ w .max-deepest .ensures ∙ take _ _ (c .loop-k .inv) (w .if-u-driver .taken) (w .mark .ensures) (w .if-mark .taken)
-    | else-u-driver w ↦ w .deepest-is ∙ elim (w .else-u-driver .came) [
-        else-u-driver·by·then-u-driver·else-mark v ↦ pass-mark _ _ (c .loop-k .inv) (v .mark .ensures) (v .if-mark .left)
-      | else-u-driver·by·else-u-driver v ↦ pass-driver _ (c .loop-k .inv) (v .if-u-driver .left)
+      | then-u-driver·then-mark w ↦ w .deepest-is ∙ w .max-deepest .ensures ∙ take _ _ (c .loop-k .inv) (w .if-u-driver .taken) (w .mark .ensures) (w .if-mark .taken)
+      | else-u-driver w ↦ w .deepest-is ∙ elim (w .else-u-driver .came) [
+        | else-u-driver·by·then-u-driver·else-mark v ↦ pass-mark _ _ (c .loop-k .inv) (v .mark .ensures) (v .if-mark .left)
+        | else-u-driver·by·else-u-driver v ↦ pass-driver _ (c .loop-k .inv) (v .if-u-driver .left)
       ]
     ]
