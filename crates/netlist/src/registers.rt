@@ -50,7 +50,8 @@ pub fn shared_tally<N: Netlist>(net: &N) -> u64
     tally(net, &ShareAll)
 }
 
-// The register sum in which each wire counts for itself.
+// The register sum in which each wire counts for itself (Gaujal and Mairesse, "Minimization of circuit registers:
+// retiming revisited", have both sums).
 pub fn alone_tally<N: Netlist>(net: &N) -> u64
     ensures { λ r. ⌜ r ≡ alone-sum (meaning (now (net .entry))) ⌝ }
 {
