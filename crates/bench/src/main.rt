@@ -1,6 +1,5 @@
 // Times the engine, forward and then back, on shapes of full size. The registers needed go to standard output, the
 // times to standard error.
-mod random;
 mod shape;
 
 use engine::calls::fewest;

@@ -1,8 +1,8 @@
 // The shapes that are timed: 1,024 gates, of which the first few are fixed, and up to 4,096 wires.
 ghost use mathlib.Core.Path.{_≡_};
 ghost use Prim.Native.Nat.{ℕ, _+_, _<_, _≤_};
-use crate::random::Random;
 use engine::link::Link;
+use random::Random;
 use std::alloc::AllocError;
 use std::alloc::Global;
 

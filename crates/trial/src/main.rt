@@ -1,7 +1,6 @@
 // Compares the engine with exhaustive search on some thousands of small nets, and prints on how many they agree.
 mod exhaust;
 mod net;
-mod random;
 mod witness;
 
 use engine::calls::decide;

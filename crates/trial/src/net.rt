@@ -1,8 +1,8 @@
 // Small nets: two to five gates, one to seven wires.
 ghost use mathlib.Core.Path.{_≡_};
 ghost use Prim.Native.Nat.{ℕ, _<_, _≤_};
-use crate::random::Random;
 use engine::link::Link;
+use random::Random;
 use std::alloc::AllocError;
 use std::alloc::Global;
 
