@@ -1,5 +1,7 @@
 // Times the engine, forward and then back, on shapes of full size. The registers needed go to standard output, the
 // times to standard error.
+#![tactic(auto)]
+
 mod shape;
 
 use anyhow::anyhow;

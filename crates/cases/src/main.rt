@@ -1,5 +1,7 @@
 // Lists each drawing that standard input names, a name to a line, from the file of that name in the working folder, and
 // says of each accepted one whether opening and writing give its bytes again.
+#![tactic(auto)]
+
 use anyhow::anyhow;
 use listing::lines::refused;
 use listing::run::run;

@@ -1,4 +1,6 @@
 // The engine on plain tables: fewest registers one way, nearest lags, and the witness that no fewer do.
+#![tactic(auto)]
+
 pub mod calls;
 pub(crate) mod carry;
 pub(crate) mod check;

@@ -1,4 +1,6 @@
 // Directed graphs told by questions, and the one search over them.
+#![tactic(auto)]
+
 pub mod ask;
 pub mod fault;
 pub mod reach;

@@ -13,7 +13,7 @@ use crate::fault::SearchFault;
 // Marks 1 every node to which open arcs lead from a node with a nonzero mark, such a node included, and 0
 // every other node. Marks past the last node are kept. Answers how many nodes are marked.
 pub fn search<G: Graph>(graph: &G, marks: &mut [u8]) -> Result<usize, SearchFault>
-    ensures { MatchResult result (λ n. Searched (shape graph.now) marks.old marks.new n) (λ f. Refused (shape graph.now) marks.old marks.new f) }
+    ensures { MatchResult result (λ n. Searched (G.shape graph.now) marks.old marks.new n) (λ f. Refused (G.shape graph.now) marks.old marks.new f) }
 {
     let nodes = graph.node_count();
     if marks.len() < nodes {
@@ -26,7 +26,7 @@ pub fn search<G: Graph>(graph: &G, marks: &mut [u8]) -> Result<usize, SearchFaul
 // The same search, which also leaves for each marked node how many arcs it took to reach it: 0 for a start,
 // else one more than for a node that an open arc enters it from. Hops past the last node are kept.
 pub fn trace<G: Graph>(graph: &G, marks: &mut [u8], hops: &mut [u16]) -> Result<usize, SearchFault>
-    ensures { MatchResult result (λ n. Traced (shape graph.now) marks.old hops.old marks.new hops.new n) (λ f. Untraced (shape graph.now) marks.old hops.old marks.new hops.new f) }
+    ensures { MatchResult result (λ n. Traced (G.shape graph.now) marks.old hops.old marks.new hops.new n) (λ f. Untraced (G.shape graph.now) marks.old hops.old marks.new hops.new f) }
 {
     let nodes = graph.node_count();
     if marks.len() < nodes || hops.len() < nodes {
@@ -37,9 +37,9 @@ pub fn trace<G: Graph>(graph: &G, marks: &mut [u8], hops: &mut [u16]) -> Result<
 
 // Marks what is reached and leaves its hops, in rows that are long enough. Answers how many nodes are marked.
 fn traverse<G: Graph>(graph: &G, marks: &mut [u8], hops: &mut [u16]) -> usize
-    requires marks { (shape graph.now).nodes ≤ length marks.old }
-    requires hops { (shape graph.now).nodes ≤ length hops.old }
-    ensures { Traced (shape graph.now) marks.old hops.old marks.new hops.new result }
+    requires marks { (G.shape graph.now).nodes ≤ length marks.old }
+    requires hops { (G.shape graph.now).nodes ≤ length hops.old }
+    ensures { Traced (G.shape graph.now) marks.old hops.old marks.new hops.new result }
 {
     let nodes = graph.node_count();
     let mut first = [0u16; 8192];
@@ -53,10 +53,10 @@ fn traverse<G: Graph>(graph: &G, marks: &mut [u8], hops: &mut [u16]) -> usize
 // Chains the arcs that leave each node: links count from 1, so that 0 can end a chain.
 fn link_arcs<G: Graph>(graph: &G, first: &mut [u16], next: &mut [u16])
     requires clear { (v : ℕ) → slice_index first.old v ≡ 0 }
-    requires nodes { (shape graph.now).nodes ≤ length first.old }
+    requires nodes { (G.shape graph.now).nodes ≤ length first.old }
     requires arcs { 32768 ≤ length next.old }
-    ensures few { (shape graph.now).arcs ≤ 32768 }
-    ensures linked { Linked (shape graph.now) (shape graph.now).arcs first.new next.new }
+    ensures few { (G.shape graph.now).arcs ≤ 32768 }
+    ensures linked { Linked (G.shape graph.now) (G.shape graph.now).arcs first.new next.new }
 {
     for i in 0..graph.arc_count() {
         let (from, _, _) = graph.arc(i);
@@ -117,11 +117,11 @@ fn spread<G: Graph>(
     hops: &mut [u16],
     starts: usize,
 ) -> usize
-    requires room { Room (shape graph.now) first.now next.now marks.old queue.old hops.old }
-    requires linked { Linked (shape graph.now) (shape graph.now).arcs first.now next.now }
-    requires queued { Queued (shape graph.now).nodes marks.old queue.old hops.old starts }
-    ensures grown { Grown (shape graph.now) marks.old queue.old hops.old starts marks.new queue.new hops.new result }
-    ensures closed { Closed (shape graph.now) marks.new }
+    requires room { Room (G.shape graph.now) first.now next.now marks.old queue.old hops.old }
+    requires linked { Linked (G.shape graph.now) (G.shape graph.now).arcs first.now next.now }
+    requires queued { Queued (G.shape graph.now).nodes marks.old queue.old hops.old starts }
+    ensures grown { Grown (G.shape graph.now) marks.old queue.old hops.old starts marks.new queue.new hops.new result }
+    ensures closed { Closed (G.shape graph.now) marks.new }
 {
     let mut tail = starts;
     let mut head = 0;
@@ -145,13 +145,13 @@ fn visit<G: Graph>(
     end: usize,
     v: usize,
 ) -> usize
-    requires node { v < (shape graph.now).nodes }
-    requires room { Room (shape graph.now) first.now next.now marks.old queue.old hops.old }
-    requires linked { Linked (shape graph.now) (shape graph.now).arcs first.now next.now }
-    requires queued { Queued (shape graph.now).nodes marks.old queue.old hops.old end }
+    requires node { v < (G.shape graph.now).nodes }
+    requires room { Room (G.shape graph.now) first.now next.now marks.old queue.old hops.old }
+    requires linked { Linked (G.shape graph.now) (G.shape graph.now).arcs first.now next.now }
+    requires queued { Queued (G.shape graph.now).nodes marks.old queue.old hops.old end }
     requires marked { slice_index marks.old v ≡ 1 }
-    ensures grown { Grown (shape graph.now) marks.old queue.old hops.old end marks.new queue.new hops.new result }
-    ensures left { Left (shape graph.now) marks.new v }
+    ensures grown { Grown (G.shape graph.now) marks.old queue.old hops.old end marks.new queue.new hops.new result }
+    ensures left { Left (G.shape graph.now) marks.new v }
 {
     let mut tail = end;
     let mut link = first[v] as usize;

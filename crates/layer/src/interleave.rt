@@ -15,7 +15,7 @@ use wiring::wire::Wire;
 // The lowest wire whose count times the factor is over the limit.
 fn deep_wire<N: Netlist>(net: &N, factor: u32) -> Option<usize>
     requires { factor ≤ 15 }
-    ensures { Finds (meaning net.now).wires (Deep 1048575 (times factor (meaning net.now))) result }
+    ensures { Finds (N.meaning net.now).wires (Deep 1048575 (times factor (N.meaning net.now))) result }
 {
     for k in 0..net.wire_count() {
         let (_, _, count) = net.wire(k);
@@ -28,7 +28,7 @@ fn deep_wire<N: Netlist>(net: &N, factor: u32) -> Option<usize>
 
 // Checks that a factor suits a netlist.
 pub fn check<N: Netlist>(net: &N, factor: u32) -> Result<(), LayerFault>
-    ensures { MatchResult result (λ _. Passes factor (meaning net.now)) (Fails factor (meaning net.now)) }
+    ensures { MatchResult result (λ _. Passes factor (N.meaning net.now)) (Fails factor (N.meaning net.now)) }
 {
     if factor < 1 || factor > 15 {
         return Err(LayerFault::BadFactor);
@@ -41,7 +41,7 @@ pub fn check<N: Netlist>(net: &N, factor: u32) -> Result<(), LayerFault>
 
 // The factor itself where the check accepts it, and 1 where it does not.
 fn shown_factor<N: Netlist>(net: &N, factor: u32) -> u32
-    ensures { Chosen factor (meaning net.now) result }
+    ensures { Chosen factor (N.meaning net.now) result }
 {
     match check(net, factor) {
         Ok(()) => factor,
@@ -51,7 +51,7 @@ fn shown_factor<N: Netlist>(net: &N, factor: u32) -> u32
 
 // For each gate whether it is pinned.
 fn pin_row<N: Netlist>(heap: Global, net: &N) -> Result<Vec<bool>, AllocError>
-    ensures { IfOk result (λ v. HasPins (meaning net.now) (vec_len v) v.items) }
+    ensures { IfOk result (λ v. HasPins (N.meaning net.now) (vec_len v) v.items) }
 {
     let mut row = Vec::new(heap);
     for gate in 0..net.gate_count() {
@@ -62,8 +62,8 @@ fn pin_row<N: Netlist>(heap: Global, net: &N) -> Result<Vec<bool>, AllocError>
 
 // Wire k, with its count times the factor.
 fn scaled_wire<N: Netlist>(net: &N, factor: u32, k: usize) -> Wire
-    requires { (Passes factor (meaning net.now)) × (k < (meaning net.now).wires) }
-    ensures { result ≡ wire_of (times factor (meaning net.now)) k }
+    requires { (Passes factor (N.meaning net.now)) × (k < (N.meaning net.now).wires) }
+    ensures { result ≡ wire_of (times factor (N.meaning net.now)) k }
 {
     let (driver, driven, count) = net.wire(k);
     Wire {
@@ -75,8 +75,8 @@ fn scaled_wire<N: Netlist>(net: &N, factor: u32, k: usize) -> Wire
 
 // All wires in order, with their counts times the factor.
 fn scaled_wires<N: Netlist>(heap: Global, net: &N, factor: u32) -> Result<Vec<Wire>, AllocError>
-    requires { Passes factor (meaning net.now) }
-    ensures { IfOk result (λ v. HasWires (times factor (meaning net.now)) (vec_len v) v.items) }
+    requires { Passes factor (N.meaning net.now) }
+    ensures { IfOk result (λ v. HasWires (times factor (N.meaning net.now)) (vec_len v) v.items) }
 {
     let mut wires = Vec::new(heap);
     for k in 0..net.wire_count() {
@@ -87,8 +87,8 @@ fn scaled_wires<N: Netlist>(heap: Global, net: &N, factor: u32) -> Result<Vec<Wi
 
 // Shows a netlist with all counts times a factor. It never refuses: what the check refuses is shown as it is.
 pub fn open<N: Netlist>(heap: Global, net: &N, factor: u32) -> Result<Wiring, AllocError>
-    ensures shows { IfOk result (λ w. Shows factor (meaning net.now) (wiring_net w)) }
-    ensures carries { IfOk result (λ w. ShowsPaths factor (meaning net.now) (wiring_net w)) }
+    ensures shows { IfOk result (λ w. Shows factor (N.meaning net.now) (wiring_net w)) }
+    ensures carries { IfOk result (λ w. ShowsPaths factor (N.meaning net.now) (wiring_net w)) }
 {
     let shown = shown_factor(net, factor);
     let pins = pin_row(heap, net)?;

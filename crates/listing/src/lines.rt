@@ -31,7 +31,7 @@ pub fn refused(heap: Global, number: u16) -> Result<String, AllocError>
 
 // The lines of a netlist: its sizes, and the registers that it needs where all wires of a driver share.
 pub fn describe<N: Netlist>(heap: Global, net: &N) -> Result<String, AllocError>
-    ensures { IfOk result (λ s. string_bytes s ≡ listing (meaning net.now)) }
+    ensures { IfOk result (λ s. string_bytes s ≡ listing (N.meaning net.now)) }
 {
     let needed = shared_tally(net);
     let mut text = sizes(heap, net.gate_count(), pin_count(net), net.wire_count())?;

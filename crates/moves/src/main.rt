@@ -1,6 +1,8 @@
 // Moves the registers of each drawing that standard input names, a name to a line, from the file of that name in the
 // working folder: forward and then back under share-all with the pinned gates fixed. Prints for each drawing the
 // registers needed before and after, and the lags other than 0.
+#![tactic(auto)]
+
 use anyhow::anyhow;
 use drawing::file::open;
 use engine::calls::fewest;

@@ -5,7 +5,7 @@ ghost use Rattle.netlist.specs.Net.{pins};
 use crate::ask::Netlist;
 
 pub fn pin_count<N: Netlist>(net: &N) -> usize
-    ensures { result ≡ pins (meaning net.now) }
+    ensures { result ≡ pins (N.meaning net.now) }
 {
     let mut count = 0;
     for gate in 0..net.gate_count() {

@@ -13,7 +13,7 @@ fn deepest_before<N: Netlist, S: Sharing>(
     driver: usize,
     mark: usize,
 ) -> u32
-    ensures { result ≡ greatest (together (meaning net.now) (marking rule.now) driver mark) (meaning net.now).count wire }
+    ensures { result ≡ greatest (together (N.meaning net.now) (S.marking rule.now) driver mark) (N.meaning net.now).count wire }
 {
     let mut deepest = 0;
     for k in 0..wire {
@@ -27,7 +27,7 @@ fn deepest_before<N: Netlist, S: Sharing>(
 
 // The sum over bundles of the greatest count in each.
 pub fn tally<N: Netlist, S: Sharing>(net: &N, rule: &S) -> u64
-    ensures { result ≡ tally_of (meaning net.now) (marking rule.now) }
+    ensures { result ≡ tally_of (N.meaning net.now) (S.marking rule.now) }
 {
     let mut sum: u64 = 0;
     for k in 0..net.wire_count() {
@@ -41,7 +41,7 @@ pub fn tally<N: Netlist, S: Sharing>(net: &N, rule: &S) -> u64
 
 // The register sum of Leiserson and Saxe, "Retiming synchronous circuitry": all wires of a driver share.
 pub fn shared_tally<N: Netlist>(net: &N) -> u64
-    ensures { result ≡ shared_sum (meaning net.now) }
+    ensures { result ≡ shared_sum (N.meaning net.now) }
 {
     tally(net, &ShareAll)
 }
@@ -49,7 +49,7 @@ pub fn shared_tally<N: Netlist>(net: &N) -> u64
 // The register sum in which each wire counts for itself (Gaujal and Mairesse, "Minimization of circuit registers:
 // retiming revisited", have both sums).
 pub fn alone_tally<N: Netlist>(net: &N) -> u64
-    ensures { result ≡ alone_sum (meaning net.now) }
+    ensures { result ≡ alone_sum (N.meaning net.now) }
 {
     tally(net, &EachAlone)
 }

@@ -12,7 +12,7 @@ use std::alloc::Global;
 
 // The lowest wire whose count is over 255.
 fn deep_wire<N: Netlist>(net: &N) -> Option<usize>
-    ensures { Finds (meaning net.now).wires (Deep 255 (meaning net.now)) result }
+    ensures { Finds (N.meaning net.now).wires (Deep 255 (N.meaning net.now)) result }
 {
     for k in 0..net.wire_count() {
         let (_, _, count) = net.wire(k);
@@ -25,7 +25,7 @@ fn deep_wire<N: Netlist>(net: &N) -> Option<usize>
 
 // How many gates are pinned, where no unpinned gate stands below a pinned one.
 fn pin_number<N: Netlist>(net: &N) -> Result<usize, WriteFault>
-    ensures { MatchResult result (PinsFirst (meaning net.now)) (IsLatePin (meaning net.now)) }
+    ensures { MatchResult result (PinsFirst (N.meaning net.now)) (IsLatePin (N.meaning net.now)) }
 {
     let mut pins = 0;
     for gate in 0..net.gate_count() {
@@ -41,8 +41,8 @@ fn pin_number<N: Netlist>(net: &N) -> Result<usize, WriteFault>
 
 // Number j of those behind the sizes: the ends of each wire, then the count of each wire.
 fn number_behind<N: Netlist>(net: &N, j: usize) -> u16
-    requires { (Small (meaning net.now)) × (j < 3 * (meaning net.now).wires) }
-    ensures { result ≡ behind_of (meaning net.now) j }
+    requires { (Small (N.meaning net.now)) × (j < 3 * (N.meaning net.now).wires) }
+    ensures { result ≡ behind_of (N.meaning net.now) j }
 {
     let ends = 2 * net.wire_count();
     if j < ends {
@@ -60,8 +60,8 @@ fn number_behind<N: Netlist>(net: &N, j: usize) -> u16
 
 // Number j of the file.
 fn number_at<N: Netlist>(net: &N, pins: usize, j: usize) -> u16
-    requires { (Small (meaning net.now)) × ((pins ≤ (meaning net.now).gates) × (j < 3 + 3 * (meaning net.now).wires)) }
-    ensures { result ≡ number_of (meaning net.now) pins j }
+    requires { (Small (N.meaning net.now)) × ((pins ≤ (N.meaning net.now).gates) × (j < 3 + 3 * (N.meaning net.now).wires)) }
+    ensures { result ≡ number_of (N.meaning net.now) pins j }
 {
     if j >= 3 {
         number_behind(net, j - 3)
@@ -86,11 +86,11 @@ fn put_number(bytes: &mut [u8], j: usize, value: u16)
 
 // All numbers of the file, into the front of the row.
 fn put_numbers<N: Netlist>(net: &N, pins: usize, bytes: &mut [u8])
-    requires small { Small (meaning net.now) }
-    requires pinned { pins ≤ (meaning net.now).gates }
-    requires room { 6 + 6 * (meaning net.now).wires ≤ length bytes.old }
-    ensures written { HoldsNumbers (meaning net.now) pins bytes.new }
-    ensures kept { KeptFrom (6 + 6 * (meaning net.now).wires) bytes.old bytes.new }
+    requires small { Small (N.meaning net.now) }
+    requires pinned { pins ≤ (N.meaning net.now).gates }
+    requires room { 6 + 6 * (N.meaning net.now).wires ≤ length bytes.old }
+    ensures written { HoldsNumbers (N.meaning net.now) pins bytes.new }
+    ensures kept { KeptFrom (6 + 6 * (N.meaning net.now).wires) bytes.old bytes.new }
 {
     for j in 0..3 + 3 * net.wire_count() {
         put_number(bytes, j, number_at(net, pins, j));
@@ -99,7 +99,7 @@ fn put_numbers<N: Netlist>(net: &N, pins: usize, bytes: &mut [u8])
 
 // Writes a netlist as a file into the front of a row of bytes and answers the file's length; later bytes stay as they are.
 pub fn write<N: Netlist>(net: &N, bytes: &mut [u8]) -> Result<usize, WriteFault>
-    ensures { Writes (meaning net.now) bytes.old bytes.new result }
+    ensures { Writes (N.meaning net.now) bytes.old bytes.new result }
 {
     let size = 6 + 6 * net.wire_count();
     if bytes.len() < size {

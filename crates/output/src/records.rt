@@ -8,8 +8,8 @@ use netlist::ask::Netlist;
 use wiring::wire::Wire;
 
 fn wire_at<N: Netlist>(net: &N, k: usize) -> Wire
-    requires { k < (meaning net.now).wires }
-    ensures { result ≡ wire_of (meaning net.now) k }
+    requires { k < (N.meaning net.now).wires }
+    ensures { result ≡ wire_of (N.meaning net.now) k }
 {
     let (driver, driven, count) = net.wire(k);
     Wire {
@@ -21,9 +21,9 @@ fn wire_at<N: Netlist>(net: &N, k: usize) -> Wire
 
 // All wires into the front of the list.
 fn put_wires<N: Netlist>(net: &N, list: &mut [Wire])
-    requires { (meaning net.now).wires ≤ length list.old }
-    ensures written { HoldsWires (meaning net.now) list.new }
-    ensures kept { KeptWires (meaning net.now).wires list.old list.new }
+    requires { (N.meaning net.now).wires ≤ length list.old }
+    ensures written { HoldsWires (N.meaning net.now) list.new }
+    ensures kept { KeptWires (N.meaning net.now).wires list.old list.new }
 {
     for k in 0..net.wire_count() {
         list[k] = wire_at(net, k);
@@ -32,7 +32,7 @@ fn put_wires<N: Netlist>(net: &N, list: &mut [Wire])
 
 // Writes the wires of a netlist into a list and answers how many they are; later records stay as they are.
 pub fn settle<N: Netlist>(net: &N, list: &mut [Wire]) -> Result<usize, SettleFault>
-    ensures { Settles (meaning net.now) list.old list.new result }
+    ensures { Settles (N.meaning net.now) list.old list.new result }
 {
     let wires = net.wire_count();
     if list.len() < wires {

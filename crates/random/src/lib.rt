@@ -1,4 +1,6 @@
 // Numbers that look random and are the same in each run, for programs that try the engine.
+#![tactic(auto)]
+
 ghost use Rattle.std.specs.Prelude.{◌≡◌, ℕ, ◌+◌, ◌*◌, ◌/◌, ◌%◌, ◌^◌, ◌<◌};
 
 #[derive(Drop)]

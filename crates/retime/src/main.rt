@@ -1,4 +1,6 @@
 // Reads a drawing from standard input and prints its listing.
+#![tactic(auto)]
+
 use anyhow::anyhow;
 use listing::lines::refused;
 use listing::run::run;

@@ -1,4 +1,6 @@
 // Small examples beside the answers that they must get.
+#![tactic(auto)]
+
 #[cfg(test)]
 mod drawings;
 #[cfg(test)]

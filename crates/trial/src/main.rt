@@ -1,4 +1,6 @@
 // Compares the engine with exhaustive search on some thousands of small nets, and prints on how many they agree.
+#![tactic(auto)]
+
 mod exhaust;
 mod net;
 mod witness;

@@ -1,4 +1,6 @@
 // Lists of wires: their check, and netlists in memory that are opened from them.
+#![tactic(auto)]
+
 pub mod check;
 pub mod fault;
 pub mod lent;

@@ -7,8 +7,8 @@ use Rattle.graph.proofs.reach.spread.Goals as goal
 pub loop-head-init : goal.loop-head-init
 loop-head-init g c = visiting_first c.requires.queued
 
-pub offset-bounds-queue-head : goal.offset-bounds-queue-head
-offset-bounds-queue-head g c = omega (arith, tail_le c.loop-head.invariant.grown.queued)
+pub offset_bounds-queue-head : goal.offset_bounds-queue-head
+offset_bounds-queue-head g c = omega (arith, tail_le c.loop-head.invariant.grown.queued)
 
 pub bounds-queue-head : goal.bounds-queue-head
 bounds-queue-head g c = omega (arith, tail_le c.loop-head.invariant.grown.queued)

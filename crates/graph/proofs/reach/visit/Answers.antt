@@ -17,8 +17,8 @@ enqueue-tail-requires g c =
     let room = tail_lt c.loop-link.invariant.grown.queued _ to_node c.if-marks-to-eq0.true in
     record { node = omega arith; room = omega arith; hops = omega arith; small = omega arith }
 
-pub overflow-add-hop : goal.overflow-add-hop
-overflow-add-hop g c =
+pub overflow_add-hop : goal.overflow_add-hop
+overflow_add-hop g c =
     let old = c.loop-link.invariant.grown in
     let found = found_stays old.spread c.args.v (c.requires.node, c.requires.marked) in
     omega (arith, tail_le old.queued, hop_lt old.queued c.args.v found.0 found.1)
