@@ -1,5 +1,5 @@
 -- One more element, counted where it passes a test.
-use Rattle.std.proofs.Common.{◌≡◌, ℕ, suc, ◌+◌, ◌≤◌, Bool, true, false, cond, add-one, arith}
+use Rattle.std.proofs.Common.{◌≡◌, ℕ, ◌+◌, ◌≤◌, Bool, true, false, cond, add-one, arith}
 use Rattle.graph.specs.Sums.{total}
 
 module _ (p : ℕ → Bool) (k n : ℕ) (old : (n ≡ total (λ v. cond (p v) 1 0) k) × (n ≤ k)) where

@@ -1,9 +1,9 @@
 -- The tally under the two rules is the two register sums of the literature.
-use Rattle.std.proofs.Common.{◌≡◌, ℕ, zero, suc, ◌+◌, ◌<◌, ◌≤◌, Bool, true, false, cond, ◌&&◌, eqb, sym, refl, ◌∙◌, arith}
+use Rattle.std.proofs.Common.{◌≡◌, ℕ, zero, suc, ◌<◌, ◌≤◌, Bool, true, false, ◌&&◌, eqb, sym, refl, ◌∙◌, arith}
 use Rattle.std.proofs.lemmas.Bool.{ne_eqb, and_right}
 use Rattle.graph.specs.Sums.{total}
 use Rattle.netlist.specs.Net.{Net}
-use Rattle.netlist.specs.Tally.{Marking, greatest, together, tally_of, shared_sum, alone_sum}
+use Rattle.netlist.specs.Tally.{greatest, together, tally_of, shared_sum, alone_sum}
 use Rattle.netlist.proofs.Greatest.{greatest_none, greatest_same}
 use Rattle.graph.proofs.Totals.{total_same, total_only}
 use Rattle.netlist.proofs.Tallies.{sofar, sofar_none, sofar_more}

@@ -1,10 +1,10 @@
 -- The tally, one wire more at a time.
-use Rattle.std.proofs.Common.{◌≡◌, ℕ, zero, suc, ◌+◌, ◌-◌, ◌*◌, ◌<◌, ◌≤◌, max, Bool, true, false, cond, ◌&&◌, eqb, sym, refl, ap, ◌∙◌, ⊎_elim, add-one, arith}
-use Rattle.std.proofs.lemmas.Bool.{cases_eq, ne_eqb, eq-eqb, and_left, and_right, and_from}
+use Rattle.std.proofs.Common.{◌≡◌, ℕ, suc, ◌+◌, ◌-◌, ◌*◌, ◌<◌, ◌≤◌, max, Bool, sym, refl, ap, ◌∙◌, add-one, arith}
+use Rattle.std.proofs.lemmas.Bool.{ne_eqb, eq-eqb, and_left, and_right, and_from}
 use Rattle.graph.specs.Sums.{total}
 use Rattle.netlist.specs.Net.{Net}
-use Rattle.netlist.specs.Tally.{Marking, greatest, together, tally_under, tally_of}
-use Rattle.netlist.proofs.Greatest.{greatest_yes, greatest_no, greatest_none, greatest_same}
+use Rattle.netlist.specs.Tally.{Marking, greatest, together, tally_of}
+use Rattle.netlist.proofs.Greatest.{greatest_yes, greatest_no}
 use Rattle.graph.proofs.Totals.{total_same, total_zero, total_change}
 
 -- the mark of wire k

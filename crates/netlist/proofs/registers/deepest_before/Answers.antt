@@ -1,4 +1,4 @@
-use Rattle.std.proofs.Common.{sym, ◌∙◌, arith}
+use Rattle.std.proofs.Common.{◌∙◌}
 use Rattle.netlist.proofs.Tallies.{deepest_take, deepest_pass_driver, deepest_pass_mark}
 use Rattle.netlist.proofs.registers.deepest_before.Goals as goal
 use Rattle.netlist.proofs.registers.deepest_before.Goals.{then-u-driver+then-mark, else-u-driver, else-u-driver-via-then-u-driver+else-mark, else-u-driver-via-else-u-driver}
