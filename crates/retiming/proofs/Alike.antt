@@ -1,5 +1,5 @@
 -- Markings that put the same wires together need the same registers.
-use Rattle.std.proofs.Common.{◌≡◌, ℕ, zero, suc, ◌<◌, ◌≤◌, sym, ◌∙◌, arith}
+use Rattle.std.proofs.Common.{◌≡◌, ℕ, zero, suc, ◌≤◌, sym, ◌∙◌, arith}
 use Rattle.netlist.specs.Net.{Net}
 use Rattle.netlist.specs.Tally.{Marking}
 use Rattle.netlist.specs.Lags.{Lags, under, needs}
@@ -22,5 +22,5 @@ module _ (m : Net) (p q : Marking) (sound_p : Sound m p) (sound_q : Sound m q) (
 pub needs_alike : (n : Net) (p q : Marking) → Sound n p → Sound n q → BundleAlike n p q → (r : Lags) → needs n p r ≡ needs n q r
 needs_alike n p q sound_p sound_q alike r =
     let m = under n r in
-    let over = λ (mark : Marking) (s : Sound n mark). record { drivers = s.drivers; drivens = s.drivens; marks = s.marks } in
+    let over : (mark : Marking) → Sound n mark → Sound m mark = λ mark s. record { drivers = s.drivers; drivens = s.drivens; marks = s.marks } in
     tally_all m p ∙ tally_same m p q (over p sound_p) (over q sound_q) alike ∙ sym (tally_all m q)

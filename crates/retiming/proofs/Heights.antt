@@ -1,5 +1,5 @@
 -- Two choices of lags as heights: natural numbers with the same difference at each gate.
-use Rattle.std.proofs.Common.{◌≡◌, ℕ, ◌+◌, ◌<◌, Bool, ℤ, pos, negsuc, ◌≤ℤ◌, refl, arith}
+use Rattle.std.proofs.Common.{◌≡◌, ℕ, ◌+◌, Bool, ℤ, pos, negsuc, ◌≤ℤ◌, refl, arith}
 use borrow.Author.Differences.{up, down, ints, le_out}
 use Rattle.netlist.specs.Net.{Net}
 use Rattle.netlist.specs.Lags.{Lags, lagged, Permitted, natural, under}

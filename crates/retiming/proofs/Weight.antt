@@ -1,9 +1,8 @@
 -- At lags 0 no more registers are needed than the counts add to.
-use Rattle.std.proofs.Common.{◌≡◌, ℕ, zero, suc, ◌+◌, ◌-◌, ◌<◌, ◌≤◌, pos, refl, ap, ◌∙◌, subst, arith}
-use lib.IntN.{+ℤ_idr}
+use Rattle.std.proofs.Common.{◌≡◌, ℕ, zero, suc, ◌<◌, ◌≤◌, pos, arith}
 use Rattle.graph.specs.Sums.{total}
 use Rattle.graph.proofs.Totals.{total_same}
-use Rattle.netlist.specs.Lags.{natural, under, needs}
+use Rattle.netlist.specs.Lags.{under, needs}
 use Rattle.netlist.specs.Net.{Net}
 use Rattle.netlist.specs.Tally.{Marking}
 use Rattle.netlist.proofs.Tallies.{tally_upto, tally_none, tally_more, tally_all}
