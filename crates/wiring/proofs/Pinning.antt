@@ -1,9 +1,9 @@
 -- Pins have no say in which wires lie on a round, and a lowest wire is lowest for any equal property.
-use Rattle.std.proofs.Common.{ℕ, ◌<◌, ◌≤◌, Bool, List, inl, inr, ⊎_elim, arith}
+use Rattle.std.proofs.Common.{ℕ, ◌<◌, Bool, List, inl, inr, ⊎_elim}
 use Rattle.std.proofs.lemmas.Bool.{cases_lt}
 use Rattle.netlist.specs.Net.{Net, OnFreeRound}
 use Rattle.wiring.specs.declared.wire.Wire.{Wire}
-use Rattle.wiring.specs.Check.{Lowest, NoneBelow, Stray}
+use Rattle.wiring.specs.Check.{Lowest, Stray}
 use Rattle.wiring.specs.Wires.{wired}
 
 pub repinned : (gates : ℕ) (p q : ℕ → Bool) (ws : List Wire) (k : ℕ) → OnFreeRound (wired gates p ws) k → OnFreeRound (wired gates q ws) k

@@ -1,5 +1,5 @@
 -- Where levels rise along each wire without a register, no round consists of such wires.
-use Rattle.std.proofs.Common.{◌≡◌, ℕ, ◌<◌, ◌≤◌, true, false, List, length, get_or, ap, arith}
+use Rattle.std.proofs.Common.{ℕ, ◌≤◌, false, List, get_or, ap, arith}
 use Rattle.std.proofs.lemmas.Bool.{eqb-true}
 use Rattle.graph.specs.Reach.{Reached, Leads}
 use Rattle.netlist.specs.Net.{graph_of}

@@ -1,11 +1,10 @@
 -- The verdict on a list from the verdict on its wires, and that no list is both accepted and refused.
-use Rattle.std.proofs.Common.{ℕ, Bool, ltb, List, length, Ok, Err, Result, MatchResult}
+use Rattle.std.proofs.Common.{ℕ, List, length, Ok, Err, Result, MatchResult}
 use Rattle.wiring.specs.declared.fault.CheckFault.{CheckFault}
 use Rattle.wiring.specs.declared.fault.CheckFault.TheVariants.{ShortFile, TooLarge, WrongLength, NoGate, CountTooLarge, FreeRound}
 use Rattle.wiring.specs.declared.wire.Wire.{Wire}
 use Rattle.wiring.specs.Check.{Fits, WiresPass, WiresFail}
 use Rattle.wiring.specs.List.{listed, Passes, Fails}
-use Rattle.wiring.specs.Wires.{wired}
 
 module _ (limit gates pins : ℕ) (ws : List Wire) where
   pub fails_from_wires : (f : CheckFault) → Fits gates pins (length ws) → WiresFail limit (listed gates pins ws) f → Fails limit gates pins ws f

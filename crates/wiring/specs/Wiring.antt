@@ -1,5 +1,5 @@
 -- What the lists in memory mean.
-use Rattle.std.specs.Prelude.{ℕ, false, vec_items, vec_len, slice_index_or}
+use Rattle.std.specs.Prelude.{false, vec_items, vec_len, slice_index_or}
 use Rattle.graph.specs.Digraph.{Digraph}
 use Rattle.netlist.specs.Net.{Net, graph_of}
 use Rattle.wiring.specs.declared.lent.Wires.{Wires}

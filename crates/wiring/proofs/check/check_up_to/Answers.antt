@@ -5,4 +5,4 @@ use Rattle.wiring.proofs.check.check_up_to.Goals as goal
 pub returns : goal.returns
 returns c =
     let pins = c.args.pins in
-    verdict_from_wires c.args.limit c.args.gates pins c.args.wires.now c.check-wires.result (record { gates_fit = omega arith; wires_fit = omega arith; pins_fit = omega arith }) (c.check-wires.ensures (λ g. ltb g pins))
+    verdict_from_wires c.args.limit c.args.gates pins c.args.wires.now c.check_wires.result (record { gates_fit = omega arith; wires_fit = omega arith; pins_fit = omega arith }) (c.check_wires.ensures (λ g. ltb g pins))

@@ -1,4 +1,3 @@
-use Rattle.std.proofs.Common.{arith}
 use Rattle.wiring.proofs.Leading.{leads_answer}
 use Rattle.wiring.specs.Wiring.{wires_graph}
 use Rattle.wiring.proofs.check.leads.Goals as goal

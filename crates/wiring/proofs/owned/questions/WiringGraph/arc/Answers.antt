@@ -1,4 +1,4 @@
-use Rattle.std.proofs.Common.{◌≡◌, ◌<◌, eqb, length, ap, arith}
+use Rattle.std.proofs.Common.{◌<◌, eqb, length, ap, arith}
 use Rattle.std.proofs.lemmas.List.{get_or_read_under}
 use Rattle.wiring.specs.Wires.{no_wire}
 use Rattle.wiring.proofs.owned.questions.WiringGraph.arc.Goals as goal
