@@ -1,14 +1,13 @@
 -- The wires read off a file are those of the netlist that its bytes draw.
-use Rattle.std.proofs.Common.{◌≡◌, ℕ, ◌+◌, ◌-◌, ◌*◌, ◌<◌, ◌≤◌, Bool, cond, ltb, List, length, get_or, take, drop, sym, refl, ap, ◌∙◌, subst, ap₂, inl, inr, ⊎_elim, arith}
+use Rattle.std.proofs.Common.{◌≡◌, ℕ, ◌+◌, ◌-◌, ◌*◌, ◌<◌, ◌≤◌, Bool, ltb, List, length, get_or, take, drop, sym, refl, ap, ◌∙◌, subst, ap₂, ⊎_elim, arith}
 use Rattle.std.proofs.lemmas.List.{get_or-drop, get_or_past, get_or-take, length-take-le}
 use Rattle.std.proofs.lemmas.Bool.{cases_lt, lt-ltb, le-ltb, cond-true, cond-false}
-use Rattle.netlist.specs.Net.{Net}
 use Rattle.wiring.specs.declared.fault.CheckFault.{CheckFault}
 use Rattle.wiring.specs.declared.fault.CheckFault.TheVariants.{ShortFile, TooLarge, WrongLength, NoGate, CountTooLarge, FreeRound}
 use Rattle.drawing.specs.declared.file.Sizes.{Sizes}
 use Rattle.wiring.specs.declared.wire.Wire.{Wire}
 use Rattle.wiring.specs.Check.{Fits, WiresPass, WiresFail}
-use Rattle.drawing.specs.File.{word, gates_in, pins_in, wires_in, wire_in, wire_or_none, drawn, Sized, Accepts, Refuses}
+use Rattle.drawing.specs.File.{word, gates_in, pins_in, wires_in, wire_in, wire_or_none, drawn, Accepts, Refuses}
 use Rattle.drawing.specs.Parsed.{SizesOf, wire_behind}
 use Rattle.wiring.specs.List.{Passes, Fails}
 use Rattle.wiring.specs.Wires.{no_wire, wired}

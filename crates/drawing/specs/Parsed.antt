@@ -1,5 +1,5 @@
 -- What the check reads off a file on its way.
-use Rattle.std.specs.Prelude.{◌≡◌, ℕ, ◌+◌, ◌*◌, ◌<◌, ◌≤◌, List, length, slice_index_or}
+use Rattle.std.specs.Prelude.{◌≡◌, ℕ, ◌+◌, ◌*◌, ◌<◌, List, slice_index_or}
 use Rattle.drawing.specs.declared.file.Parsed.{Parsed}
 use Rattle.drawing.specs.declared.file.Sizes.{Sizes}
 use Rattle.wiring.specs.declared.wire.Wire.{Wire}

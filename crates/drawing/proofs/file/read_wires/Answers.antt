@@ -5,4 +5,4 @@ use Rattle.wiring.proofs.Filling.{filled_more}
 use Rattle.drawing.proofs.file.read_wires.Goals as goal
 
 pub loop-k-preserved : goal.loop-k-preserved
-loop-k-preserved c = filled_more (wire_behind c.args.rest.now c.args.wires) c.loop-k.list c.loop-k.k c.read-wire.result no_wire (omega arith) c.loop-k.invariant c.read-wire.ensures
+loop-k-preserved c = filled_more (wire_behind c.args.rest.now c.args.wires) c.loop-k.list c.loop-k.k c.read_wire.result no_wire (omega arith) c.loop-k.invariant c.read_wire.ensures

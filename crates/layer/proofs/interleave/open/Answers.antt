@@ -22,13 +22,13 @@ returns g c =
       past_wires = laws.past_wires net;
       past_gates = laws.past_gates net;
     } in
-    let shown = c.shown-factor-shown.result in
-    let chosen = c.shown-factor-shown.ensures in
-    let row = c.in-ok-pins.pins in
-    let pins = c.in-ok-pins.ensures in
-    let scaled = c.in-ok-wires.wires in
-    let wires = c.in-ok-wires.ensures in
-    let is = opened_is (times shown n) (sound_times n shown chosen.passes sound) row.items row.len row.ok.0 (record { size_is = pins.size-is; at = pins.at }) scaled.items scaled.len scaled.ok.0 wires c.as-slice.result.now c.as-slice.ensures.value in
+    let shown = c.shown_factor-shown.result in
+    let chosen = c.shown_factor-shown.ensures in
+    let row = c.in_ok-pins.pins in
+    let pins = c.in_ok-pins.ensures in
+    let scaled = c.in_ok-wires.wires in
+    let wires = c.in_ok-wires.ensures in
+    let is = opened_is (times shown n) (sound_times n shown chosen.passes sound) row.items row.len row.ok.0 (record { size_is = pins.size_is; at = pins.at }) scaled.items scaled.len scaled.ok.0 wires c.as_slice.result.now c.as_slice.ensures.value in
     record {
       shows = IfOk-weaker c.open.result _ _ (λ w opens. shows c.args.factor n shown chosen (wiring_net w) (is (wiring_net w) opens)) c.open.ensures;
       carries = IfOk-weaker c.open.result _ _ (λ w opens. shows_paths c.args.factor n shown chosen (wiring_net w) (is (wiring_net w) opens)) c.open.ensures;
