@@ -5,15 +5,15 @@ use Rattle.wiring.specs.Wiring.{wiring_net}
 use Rattle.output.proofs.Rewriting.{rewritten, too_short}
 use Rattle.output.proofs.file.rewrite.Goals as goal
 
-pub returns-in-err-size : goal.returns-in-err-size
-returns-in-err-size c =
-    let p = err_from_is_err_and c.from-residual-in-err-size.result c.from-residual-in-err-size.ensures.1 in
-    let net = wiring_net c.in-ok-net.net in
+pub returns-in_err-size : goal.returns-in_err-size
+returns-in_err-size c =
+    let p = err_from_is_err_and c.from_residual-in_err-size.result c.from_residual-in_err-size.ensures.1 in
+    let net = wiring_net c.in_ok-net.net in
     let opened : Opened c.args.bytes.now net = search rules in
-    rw (p.1, p.2) (too_short c.args.bytes.now net opened c.args.out.now c.write.new.bytes _ c.in-err-size.ensures)
+    rw (p.1, p.2) (too_short c.args.bytes.now net opened c.args.out.now c.write.new.bytes _ c.in_err-size.ensures)
 
 pub returns : goal.returns
 returns c =
-    let net = wiring_net c.in-ok-net.net in
+    let net = wiring_net c.in_ok-net.net in
     let opened : Opened c.args.bytes.now net = search rules in
-    rewritten c.args.bytes.now net opened c.args.out.now (λ i. omega (arith, c.type_inv.bytes i)) c.write.new.bytes (λ i. omega (arith, c.type_inv.out i)) c.in-ok-size.size c.in-ok-size.ensures
+    rewritten c.args.bytes.now net opened c.args.out.now (λ i. omega (arith, c.type_inv.bytes i)) c.write.new.bytes (λ i. omega (arith, c.type_inv.out i)) c.in_ok-size.size c.in_ok-size.ensures

@@ -20,9 +20,9 @@ returns g c =
       past_gates = laws.past_gates net;
     } in
     let before = c.args.bytes.now in
-    let after = c.put-numbers.new.bytes in
-    let room : 6 + 6 * n.wires ≤ length before = omega (arith, c.wire-count.ensures, c.if-bytes-size.false) in
+    let after = c.put_numbers.new.bytes in
+    let room : 6 + 6 * n.wires ≤ length before = omega (arith, c.wire_count.ensures, c.if-bytes-size.false) in
     let room_after : 6 + 6 * n.wires ≤ length after = search rules in
-    let put = c.put-numbers.ensures in
-    let written = front_written n sound c.in-ok-pins.pins c.in-ok-pins.ensures after room_after put.written c.in-default.ensures before room put.kept in
-    subst (λ (w : ℕ). Written n before after (6 + 6 * w)) (sym c.wire-count.ensures) written
+    let put = c.put_numbers.ensures in
+    let written = front_written n sound c.in_ok-pins.pins c.in_ok-pins.ensures after room_after put.written c.in_default.ensures before room put.kept in
+    subst (λ (w : ℕ). Written n before after (6 + 6 * w)) (sym c.wire_count.ensures) written

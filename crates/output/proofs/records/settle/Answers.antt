@@ -18,12 +18,12 @@ returns g c =
       past_wires = laws.past_wires net;
       past_gates = laws.past_gates net;
     } in
-    let room : n.wires ≤ length c.args.list.now = omega (arith, c.wire-count-wires.ensures) in
-    let room_after : n.wires ≤ length c.put-wires.new.list = search rules in
+    let room : n.wires ≤ length c.args.list.now = omega (arith, c.wire_count-wires.ensures) in
+    let room_after : n.wires ≤ length c.put_wires.new.list = search rules in
     record {
-      size_is = c.wire-count-wires.ensures;
+      size_is = c.wire_count-wires.ensures;
       room = room;
-      written = c.put-wires.ensures.written;
-      kept = c.put-wires.ensures.kept;
-      opens = front_lists n sound c.put-wires.new.list room_after c.put-wires.ensures.written;
+      written = c.put_wires.ensures.written;
+      kept = c.put_wires.ensures.kept;
+      opens = front_lists n sound c.put_wires.new.list room_after c.put_wires.ensures.written;
     }
