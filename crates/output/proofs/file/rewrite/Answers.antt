@@ -16,4 +16,4 @@ pub returns : goal.returns
 returns c =
     let net = wiring_net c.in-ok-net.net in
     let opened : Opened c.args.bytes.now net = search rules in
-    rewritten c.args.bytes.now net opened c.args.out.now (λ i. omega (arith, c.type-inv.bytes i)) c.write.new.bytes (λ i. omega (arith, c.type-inv.out i)) c.in-ok-size.size c.in-ok-size.ensures
+    rewritten c.args.bytes.now net opened c.args.out.now (λ i. omega (arith, c.type_inv.bytes i)) c.write.new.bytes (λ i. omega (arith, c.type_inv.out i)) c.in-ok-size.size c.in-ok-size.ensures
