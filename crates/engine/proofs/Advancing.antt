@@ -1,25 +1,23 @@
 -- A stuck set moved as far as its slack: the lags are kept nearest, fewer registers are needed, and the rows go on.
-use Rattle.std.proofs.Common.{◌≡◌, ℕ, ◌+◌, ◌<◌, ◌≤◌, Bool, true, false, cond, List, length, get_or, ℤ, pos, nat_abs, sym, refl, ap, ◌∙◌, subst, ap₂, subst₂, arith}
+use Rattle.std.proofs.Common.{◌≡◌, ℕ, ◌+◌, ◌<◌, ◌≤◌, Bool, true, false, cond, List, length, get_or, ℤ, nat_abs, sym, refl, ap, ◌∙◌, subst, ap₂, subst₂, arith}
 use Rattle.std.proofs.lemmas.Bool.{and_parts, and_left, eqb-true, le-ltb}
-use Rattle.netlist.specs.Lags.{Lags, Permitted, under, needs}
-use Rattle.netlist.specs.Net.{Net}
-use Rattle.netlist.specs.Tally.{Marking}
+use Rattle.netlist.specs.Lags.{under, needs}
 use Rattle.retiming.specs.declared.way.Way.{Way}
 use Rattle.retiming.specs.declared.way.Way.TheVariants.{Forward, Back}
 use Rattle.retiming.specs.Nearest.{Nearest}
 use Rattle.retiming.specs.Push.{push, pushed_by, only_on}
 use Rattle.retiming.specs.Tied.{Passes, more_flow, less_flow, other_share, Follows, Tied, seed, step}
-use Rattle.retiming.specs.Witness.{Certificate, bundled}
+use Rattle.retiming.specs.Witness.{Certificate}
 use Rattle.retiming.proofs.Cut.{Pushed}
 use Rattle.retiming.proofs.Push.{push_none}
-use Rattle.retiming.proofs.Kept.{Kept, kept_start, kept_pushed, kept_nearest}
+use Rattle.retiming.proofs.Kept.{kept_start, kept_pushed, kept_nearest}
 use Rattle.retiming.proofs.Sets.{ReachedSet, ClosedWires, side, closed_from, set_pushed, set_falls, set_within}
 use Rattle.engine.specs.declared.link.Link.{Link}
-use Rattle.engine.specs.Round.{InnerSeed, Stuck, AllDone, excess}
+use Rattle.engine.specs.Round.{Stuck, AllDone, excess}
 use Rattle.engine.specs.Rows.{holder, shares, flows, deep, Depths, Holding}
 use Rattle.engine.specs.State.{needs_of, Within, State, Better}
 use Rattle.engine.specs.Step.{inside, to_beyond, from_beyond, Slack}
-use Rattle.engine.specs.Table.{no_link, Tabled, table, bundles, lags_of, fixed_of, Standing}
+use Rattle.engine.specs.Table.{Tabled, table, bundles, lags_of, fixed_of, Standing}
 use Rattle.engine.proofs.Certified.{table_sound, depth_is, holding_certificate}
 use Rattle.engine.proofs.Closing.{side_is, flows_stay}
 use Rattle.engine.proofs.Holders.{shares_holder, holder_shares, fellows}

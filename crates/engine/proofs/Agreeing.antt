@@ -1,10 +1,9 @@
 -- A witness is one by what it says of wires alone.
-use Rattle.std.proofs.Common.{◌≡◌, ℕ, ◌+◌, ◌<◌, ◌≤◌, Bool, cond, eqb, sym, ap, ◌∙◌, subst, arith}
-use Rattle.graph.specs.Sums.{total}
+use Rattle.std.proofs.Common.{◌≡◌, ℕ, ◌<◌, Bool, cond, eqb, sym, ap, ◌∙◌, arith}
 use Rattle.graph.proofs.Totals.{total_same}
 use Rattle.netlist.specs.Net.{Net}
 use Rattle.netlist.specs.Tally.{Marking}
-use Rattle.retiming.specs.Witness.{into, out_of, gain, cost, bundled, Certificate, Witness}
+use Rattle.retiming.specs.Witness.{into, out_of, bundled, Witness}
 
 module _ (m : Net) (mark : Marking) (fixed : ℕ → Bool) (share flow share' flow' : ℕ → ℕ) (shares : (k : ℕ) → k < m.wires → share' k ≡ share k) (flows : (k : ℕ) → k < m.wires → flow' k ≡ flow k) where
   into_same : (f f' : ℕ → ℕ) → ((k : ℕ) → k < m.wires → f' k ≡ f k) → (g : ℕ) → into m f' g ≡ into m f g

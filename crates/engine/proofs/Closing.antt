@@ -1,6 +1,6 @@
 -- A stuck set, seen from the side from which moves lead: no move leaves it, so around it there is slack.
-use Rattle.std.proofs.Common.{◌≡◌, ℕ, ◌+◌, ◌*◌, ◌<◌, ◌≤◌, Bool, true, false, cond, not, ◌&&◌, eqb, ltb, ◌⊎◌, List, length, get_or, sym, refl, ap, ◌∙◌, subst, subst₂, inl, inr, arith}
-use Rattle.std.proofs.lemmas.Bool.{cases_Bool, cases_eq, both_ways, not_from_true, not_from_false, not-true, not-false, lt-ltb, eq-eqb, and_from, and_parts, eqb-true}
+use Rattle.std.proofs.Common.{◌≡◌, ℕ, ◌+◌, ◌<◌, ◌≤◌, Bool, true, false, not, ◌&&◌, eqb, List, length, get_or, sym, ap, ◌∙◌, subst, inl, inr, arith}
+use Rattle.std.proofs.lemmas.Bool.{cases_Bool, cases_eq, both_ways, not_from_false, not-true, lt-ltb, eq-eqb, and_from}
 use Rattle.retiming.specs.declared.way.Way.{Way}
 use Rattle.retiming.specs.declared.way.Way.TheVariants.{Forward, Back}
 use Rattle.retiming.proofs.Cap.{flow_below}
@@ -8,12 +8,12 @@ use Rattle.retiming.proofs.Sets.{side}
 use Rattle.engine.specs.declared.link.Link.{Link}
 use Rattle.engine.specs.declared.moves.Move.{Move}
 use Rattle.engine.specs.declared.moves.Move.TheVariants.{More, Less, Hand}
-use Rattle.engine.specs.Leftover.{leftover, source, sink, possible, arc_from, arc_to}
-use Rattle.engine.specs.Moves.{numbered, wire_of}
+use Rattle.engine.specs.Leftover.{source, sink, possible, arc_from, arc_to}
+use Rattle.engine.specs.Moves.{wire_of}
 use Rattle.engine.specs.Round.{Stuck}
 use Rattle.engine.specs.Rows.{holder, shares, flows, Holding}
-use Rattle.engine.specs.Step.{inside, beyond, from_beyond, to_beyond, SlackAt, Slack}
-use Rattle.engine.specs.Table.{no_link, Tabled, table, bundles}
+use Rattle.engine.specs.Step.{inside, beyond, Slack}
+use Rattle.engine.specs.Table.{no_link, Tabled, table}
 use Rattle.engine.proofs.Certified.{holding_deep}
 use Rattle.engine.proofs.Numbered.{number, number_within, numbered_number}
 

@@ -1,5 +1,5 @@
 -- Balanced both ways, the rows are a witness; stuck one way, some permitted lags need fewer registers.
-use Rattle.std.proofs.Common.{◌≡◌, ℕ, ◌<◌, ◌≤◌, Bool, true, false, List, length, ℤ, MatchBool, sym, refl, arith}
+use Rattle.std.proofs.Common.{◌≡◌, ℕ, Bool, true, false, List, ℤ, MatchBool, sym, arith}
 use Rattle.std.proofs.lemmas.Bool.{false≢true}
 use Rattle.netlist.specs.Lags.{under}
 use Rattle.retiming.specs.declared.way.Way.{Way}

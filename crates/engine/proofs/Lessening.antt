@@ -1,7 +1,6 @@
 -- A unit carried from a gate with a surplus to one that takes it leaves one unit less over.
-use Rattle.std.proofs.Common.{◌≡◌, ℕ, ◌+◌, ◌-◌, ◌<◌, ◌≤◌, Bool, true, false, cond, eqb, ◌⊎◌, List, sym, refl, ◌∙◌, subst, inl, inr, arith}
+use Rattle.std.proofs.Common.{◌≡◌, ℕ, ◌+◌, ◌-◌, ◌<◌, ◌≤◌, Bool, true, false, eqb, ◌⊎◌, List, sym, refl, ◌∙◌, subst, inl, inr, arith}
 use Rattle.std.proofs.lemmas.Bool.{cases_eq, cases_Bool, cond-true, cond-false, eq-eqb, ne_eqb, both_ways}
-use Rattle.graph.specs.Sums.{total}
 use Rattle.graph.proofs.Totals.{total_change}
 use Rattle.retiming.specs.declared.way.Way.{Way}
 use Rattle.retiming.specs.declared.way.Way.TheVariants.{Forward, Back}
@@ -11,7 +10,7 @@ use Rattle.retiming.proofs.Falls.{won, lost}
 use Rattle.retiming.proofs.Units.{unit_at}
 use Rattle.engine.specs.declared.link.Link.{Link}
 use Rattle.engine.specs.Carried.{Carried}
-use Rattle.engine.specs.Round.{Over, Done, AllDone, surplus_at, excess, Less}
+use Rattle.engine.specs.Round.{Over, AllDone, surplus_at, Less}
 use Rattle.engine.specs.Rows.{shares, flows, Holding}
 use Rattle.engine.specs.Table.{table, fixed_of}
 

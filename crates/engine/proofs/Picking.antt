@@ -1,5 +1,5 @@
 -- The gates are marked from the first on.
-use Rattle.std.proofs.Common.{◌≡◌, ℕ, ◌+◌, ◌<◌, ◌≤◌, Bool, false, ◌⊎◌, List, length, get_or, set, Some, None, Option, ◌∙◌, subst, inl, inr, arith, below_more, MatchOption}
+use Rattle.std.proofs.Common.{◌≡◌, ℕ, ◌+◌, ◌<◌, Bool, false, ◌⊎◌, List, length, get_or, set, Some, None, Option, subst, inl, inr, arith, below_more}
 use Rattle.std.proofs.lemmas.List.{get_or-set_same, get_or-set_other}
 use Rattle.retiming.specs.declared.way.Way.{Way}
 use Rattle.retiming.specs.Tied.{Spent}

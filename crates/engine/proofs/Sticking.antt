@@ -1,12 +1,10 @@
 -- A search from all seeds that finds no sink leaves a stuck set.
-use Rattle.std.proofs.Common.{◌≡◌, ℕ, ◌+◌, ◌*◌, ◌<◌, ◌≤◌, Bool, true, false, ◌&&◌, eqb, ltb, ◌⊎◌, List, length, get_or, sym, refl, ap, ◌∙◌, subst, subst₂, inl, inr, arith}
+use Rattle.std.proofs.Common.{◌≡◌, ℕ, ◌*◌, ◌<◌, Bool, true, false, ◌⊎◌, List, length, get_or, refl, subst, subst₂, inl, inr, arith}
 use Rattle.std.proofs.lemmas.Bool.{and_parts, and_from, lt-ltb, ltb-true, eq-eqb, eqb-true}
-use Rattle.graph.specs.Digraph.{Digraph}
 use Rattle.graph.specs.Reach.{Reached, Marked, Searched}
 use Rattle.graph.specs.Trace.{Traced}
 use Rattle.retiming.specs.declared.way.Way.{Way}
 use Rattle.retiming.specs.Tied.{Excess, Spent, Tied, Follows, seed, step, opposite}
-use Rattle.retiming.specs.Witness.{gain, cost}
 use Rattle.engine.specs.declared.link.Link.{Link}
 use Rattle.engine.specs.declared.moves.Move.{Move}
 use Rattle.engine.specs.Leftover.{leftover, arc_to}
@@ -16,7 +14,7 @@ use Rattle.engine.specs.Round.{Over, Done, InnerSeed, Stuck}
 use Rattle.engine.specs.Rows.{deep, shares, flows, Holding, Priced}
 use Rattle.engine.specs.Step.{inside}
 use Rattle.engine.specs.Hops.{Hops}
-use Rattle.engine.specs.Table.{Tabled, table, bundles, fixed_of}
+use Rattle.engine.specs.Table.{Tabled, bundles, fixed_of}
 use Rattle.engine.proofs.Leftovers.{open_follows}
 use Rattle.engine.proofs.Numbered.{wire_within}
 

@@ -1,8 +1,7 @@
 -- What one round finds: nothing to move, one unit carried to where it is taken, or a set of gates that is stuck.
-use Rattle.std.specs.Prelude.{◌≡◌, ℕ, ◌+◌, ◌-◌, ◌*◌, ◌<◌, ◌≤◌, Bool, true, false, cond, List, length, get_or}
+use Rattle.std.specs.Prelude.{◌≡◌, ℕ, ◌+◌, ◌-◌, ◌*◌, ◌<◌, Bool, true, false, cond, List, length}
 use Rattle.graph.specs.Sums.{total}
 use Rattle.retiming.specs.declared.way.Way.{Way}
-use Rattle.retiming.specs.declared.way.Way.TheVariants.{Forward, Back}
 use Rattle.retiming.specs.Tied.{Excess, Spent, Tied, opposite}
 use Rattle.retiming.specs.Witness.{gain, cost}
 use Rattle.retiming.proofs.Falls.{won, lost}

@@ -1,5 +1,5 @@
 -- The engine's rows: the counts under the present lags, the wire that holds each bundle's share, and the flow on each wire.
-use Rattle.std.specs.Prelude.{◌≡◌, ℕ, ◌<◌, ◌≤◌, Bool, false, cond, List, length, ℤ, pos, ◌==◌, slice_index, slice_index_or}
+use Rattle.std.specs.Prelude.{◌≡◌, ℕ, ◌<◌, ◌≤◌, false, cond, List, length, ℤ, pos, ◌==◌, slice_index, slice_index_or}
 use Rattle.netlist.specs.Net.{Net}
 use Rattle.netlist.specs.Lags.{lagged}
 use Rattle.retiming.specs.Witness.{gain, cost}

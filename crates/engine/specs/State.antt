@@ -1,5 +1,5 @@
 -- What holds between two rounds: the lags reached from the first ones, and the rows that go with them.
-use Rattle.std.specs.Prelude.{◌≡◌, ℕ, ◌+◌, ◌<◌, ◌≤◌, Bool, List, length, ℤ, unsigned_abs}
+use Rattle.std.specs.Prelude.{◌≡◌, ℕ, ◌+◌, ◌<◌, ◌≤◌, Bool, List, ℤ, unsigned_abs}
 use Rattle.netlist.specs.Lags.{Lags, Permitted, needs}
 use Rattle.retiming.specs.declared.way.Way.{Way}
 use Rattle.retiming.proofs.Kept.{Kept}

@@ -1,9 +1,9 @@
 -- A set of gates by their marks, the slack around it, and lags moved over it.
-use Rattle.std.specs.Prelude.{◌≡◌, ℕ, ◌+◌, ◌<◌, ◌≤◌, Bool, true, false, not, ◌&&◌, List, length, ℤ, pos, ◌==◌, nat_lt, slice_index, slice_index_or}
+use Rattle.std.specs.Prelude.{◌≡◌, ℕ, ◌+◌, ◌<◌, ◌≤◌, Bool, true, false, not, ◌&&◌, List, length, ◌==◌, nat_lt, slice_index, slice_index_or}
 use Rattle.retiming.specs.declared.way.Way.{Way}
 use Rattle.retiming.specs.declared.way.Way.TheVariants.{Forward, Back}
 use Rattle.engine.specs.declared.link.Link.{Link}
-use Rattle.engine.specs.Table.{no_link, lags_of}
+use Rattle.engine.specs.Table.{no_link}
 use Rattle.engine.specs.Rows.{holder}
 
 -- the gates with the mark 1

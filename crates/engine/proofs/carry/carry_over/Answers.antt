@@ -10,8 +10,8 @@ returns c =
     let depths = c.args.depths.now in
     let holders = c.args.holders.now in
     let row = c.args.flows.now in
-    let shares_are = c.make.ensures.holders ∙ ap (λ m. holders_after links m holders) c.move-at.ensures in
-    let flows_are = c.make.ensures.flows ∙ ap (λ m. flows_after m row) c.move-at.ensures in
+    let shares_are = c.make.ensures.holders ∙ ap (λ m. holders_after links m holders) c.move_at.ensures in
+    let flows_are = c.make.ensures.flows ∙ ap (λ m. flows_after m row) c.move_at.ensures in
     record {
       holders = shares_are;
       flows = flows_are;

@@ -1,5 +1,5 @@
 use Rattle.std.proofs.Common.{refl}
-use Rattle.engine.proofs.Owning.{owned_none, owned_new, owned_same, owned_other}
+use Rattle.engine.proofs.Owning.{owned_none}
 use Rattle.engine.proofs.check.has_one_driver.Goals as goal
 
 pub loop-k-init : goal.loop-k-init

@@ -1,4 +1,3 @@
-use Rattle.std.proofs.Common.{◌≡◌, length}
 use Rattle.engine.proofs.Owning.{Owned}
 use Rattle.engine.proofs.check.has_one_driver.Given as goal
 

@@ -1,4 +1,4 @@
-use Rattle.std.proofs.Common.{◌≡◌, ◌<◌, length, ap, ◌∙◌, arith, to_z-of_z, w32, SFits, to_z, of_z, rules}
+use Rattle.std.proofs.Common.{◌<◌, length, ap, ◌∙◌, arith, to_z-of_z, w32, SFits, rules}
 use Rattle.retiming.specs.Push.{push}
 use Rattle.engine.specs.Table.{lags_of}
 use Rattle.engine.proofs.Slacks.{moved_marked, moved_unmarked}

@@ -1,4 +1,4 @@
-use Rattle.std.proofs.Common.{◌≡◌, ℕ, ◌<◌}
+use Rattle.std.proofs.Common.{◌≡◌, ℕ}
 use Rattle.retiming.specs.Push.{pushed_by, only_on}
 use Rattle.engine.specs.Step.{inside}
 use Rattle.engine.specs.Table.{lags_of}
