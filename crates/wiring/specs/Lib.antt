@@ -1,5 +1,6 @@
 pub mod Check
 pub mod Held
+pub mod Laws
 pub mod Levels
 pub mod List
 pub mod Refusals

@@ -1,11 +1,7 @@
 // What a netlist is asked, answered from memory.
-ghost use Rattle.std.specs.Prelude.{◌≡◌, length};
-ghost use Rattle.std.proofs.Common.{ap, ⊎_elim, arith, rules};
 ghost use Rattle.netlist.specs.Net.{graph_of};
 ghost use Rattle.wiring.specs.Wiring.{wiring_net};
-ghost use Rattle.std.proofs.lemmas.List.{get_or_past};
-ghost use Rattle.std.proofs.lemmas.Bool.{cases_lt};
-ghost use Rattle.wiring.specs.Wires.{no_wire};
+ghost use Rattle.wiring.specs.Laws.{few_gates_hold, few_wires_hold, drivers_within, drivens_within, counts_within, no_free_round, none_past_wires, none_past_gates};
 
 use crate::owned::Wiring;
 use graph::ask::Graph;
@@ -35,23 +31,21 @@ impl Graph for Wiring {
 impl Netlist for Wiring {
     ghost meaning = { wiring_net };
 
-    ghost few_gates = { first_of (Prim.search rules, Prim.grind (arith, Self.row.coded.inj)) };
+    ghost few_gates = { few_gates_hold };
 
-    ghost few_wires = { first_of (Prim.search rules, Prim.grind (arith, Self.row.coded.inj)) };
+    ghost few_wires = { few_wires_hold };
 
-    ghost drivers = { first_of (Prim.search rules, Prim.grind (arith, Self.row.coded.inj)) };
+    ghost drivers = { drivers_within };
 
-    ghost drivens = { first_of (Prim.search rules, Prim.grind (arith, Self.row.coded.inj)) };
+    ghost drivens = { drivens_within };
 
-    ghost counts = { λ x k. ⊎_elim (x.small k) (λ past. let e = ap (λ w. w.count) (get_or_past x.wires.items k no_wire past) in omega (arith, e)) (cases_lt k (length x.wires.items)) };
+    ghost counts = { counts_within };
 
-    ghost rounds = { first_of (Prim.search rules, Prim.grind (arith, Self.row.coded.inj)) };
+    ghost rounds = { no_free_round };
 
-    ghost past_wires = { λ x k past.
-        let e = get_or_past x.wires.items k no_wire past in
-        (ap (λ w. w.driver) e, ap (λ w. w.driven) e, ap (λ w. w.count) e) };
+    ghost past_wires = { none_past_wires };
 
-    ghost past_gates = { λ x g past. get_or_past x.pins.items g _ (omega (arith, x.pins.ok.0)) };
+    ghost past_gates = { none_past_gates };
 
     fn gate_count(&self) -> usize {
         self.pins.len()
