@@ -5,15 +5,16 @@ use anyhow::anyhow;
 use listing::lines::refused;
 use listing::run::run;
 use std::io::Read;
+use std::process::ExitCode;
 
 // One byte more than the longest drawing: a longer input is refused without reading it to its end.
 const MOST_BYTES: u64 = 24_583;
 
-fn main(rt: HostRuntime) -> anyhow::Result<()> {
+fn main(rt: HostRuntime) -> anyhow::Result<ExitCode> {
     if retime(&rt)? {
-        Ok(())
+        Ok(ExitCode::SUCCESS)
     } else {
-        Err(anyhow!("the drawing is refused"))
+        Ok(ExitCode::FAILURE)
     }
 }
 
