@@ -103,7 +103,8 @@ fn chain(heap: Global) -> Result<Vec<Link>, AllocError> {
 
 // Counts from 1 to the most.
 fn random(heap: Global, most: u16) -> Result<Vec<Link>, AllocError>
-    requires { (0 < most) × (most ≤ 255) }
+    requires some { 0 < most }
+    requires small { most ≤ 255 }
 {
     let mut source = Random { state: 1 };
     let mut links = Vec::new(heap);

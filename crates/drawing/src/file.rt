@@ -47,7 +47,9 @@ fn read_sizes(bytes: &[u8]) -> Result<(Sizes, &[u8]), CheckFault>
 
 // Wire k of so many, from the bytes behind the sizes.
 fn read_wire(rest: &[u8], wires: usize, k: usize) -> Wire
-    requires { (length rest.now ≡ 6 * wires) × ((k < wires) × (wires ≤ 4096)) }
+    requires exact { length rest.now ≡ 6 * wires }
+    requires within { k < wires }
+    requires few { wires ≤ 4096 }
     ensures { result ≡ wire_behind rest.now wires k }
 {
     let ends = 4 * k;
@@ -61,7 +63,9 @@ fn read_wire(rest: &[u8], wires: usize, k: usize) -> Wire
 
 // All wires, from the bytes behind the sizes, into the front of a list.
 fn read_wires(rest: &[u8], wires: usize, list: &mut [Wire])
-    requires { (length rest.now ≡ 6 * wires) × ((wires ≤ length list.old) × (wires ≤ 4096)) }
+    requires exact { length rest.now ≡ 6 * wires }
+    requires room { wires ≤ length list.old }
+    requires few { wires ≤ 4096 }
     ensures { (k : ℕ) → k < wires → slice_index_or list.new k no_wire ≡ wire_behind rest.now wires k }
 {
     for k in 0..wires {

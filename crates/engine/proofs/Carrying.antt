@@ -42,8 +42,8 @@ module _ (gates : ℕ) (links : List Link) (depths holders row : List ℕ) (tabl
     has = share_one links holders' k (holder_here links holders k k held refl)
 
     same : (i : ℕ) → i < length links → (i ≡ at → ⊥) → (i ≡ k → ⊥) → shares links holders' i ≡ shares links holders i
-    same i _ OffAt off_k = elim (cases_eq (get_or links i no_link).bundle (get_or links k no_link).bundle) [
-      | inl beside ↦ share_none links holders' i (λ is. off_k (sym is ∙ holder_here links holders k i held beside)) ∙ sym (share_none links holders i (λ is. OffAt (sym is ∙ one_holder links holders i k beside)))
+    same i _ off_at off_k = elim (cases_eq (get_or links i no_link).bundle (get_or links k no_link).bundle) [
+      | inl beside ↦ share_none links holders' i (λ is. off_k (sym is ∙ holder_here links holders k i held beside)) ∙ sym (share_none links holders i (λ is. off_at (sym is ∙ one_holder links holders i k beside)))
       | inr other ↦ ap (λ j. cond (eqb j i) 1 0) (holder_else links holders k i other)
     ]
 
@@ -95,9 +95,9 @@ module _ (gates : ℕ) (links : List Link) (depths holders row : List ℕ) (tabl
 
   -- an open arc is carried over
   pub arc_carried : (way : Way) (a : ℕ) → a < 3 * length links → possible links depths holders row (numbered (length links) a) ≡ true →
-      (holders' row' : List ℕ) → holders' ≡ holders_after links (numbered (length links) a) holders → row' ≡ flows_after (numbered (length links) a) row →
-      Carried way gates links holders row holders' row' (arc_from way links holders (numbered (length links) a)) (arc_to way links holders (numbered (length links) a))
-  arc_carried way a h can holders' row' shares_are flows_are =
+      (new_holders new_row : List ℕ) → new_holders ≡ holders_after links (numbered (length links) a) holders → new_row ≡ flows_after (numbered (length links) a) row →
+      Carried way gates links holders row new_holders new_row (arc_from way links holders (numbered (length links) a)) (arc_to way links holders (numbered (length links) a))
+  arc_carried way a h can new_holders new_row shares_are flows_are =
       let move = numbered (length links) a in
-      subst (λ (hs : List ℕ). Carried way gates links holders row hs row' (arc_from way links holders move) (arc_to way links holders move)) (sym shares_are)
+      subst (λ (hs : List ℕ). Carried way gates links holders row hs new_row (arc_from way links holders move) (arc_to way links holders move)) (sym shares_are)
       (subst (λ (fs : List ℕ). Carried way gates links holders row (holders_after links move holders) fs (arc_from way links holders move) (arc_to way links holders move)) (sym flows_are) (carried_by way move (wire_within (length links) a h) can))

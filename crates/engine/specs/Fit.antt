@@ -1,5 +1,5 @@
 -- When a table, its fixed gates and its lags are fit for the engine.
-use Rattle.std.specs.Prelude.{◌≡◌, ℕ, ◌<◌, ◌≤◌, Bool, List, length, get_or, ℤ, pos, ◌≤ℤ◌, slice_index_or, unsigned_abs}
+use Rattle.std.specs.Prelude.{◌≡◌, ℕ, ◌<◌, ◌≤◌, Bool, List, length, ℤ, pos, ◌≤ℤ◌, slice_index_or, unsigned_abs}
 use Rattle.netlist.specs.Lags.{lagged}
 use Rattle.engine.specs.declared.link.Link.{Link}
 use Rattle.engine.specs.State.{Within}
@@ -17,7 +17,7 @@ AllSized gates links = (k : ℕ) → k < length links → Sized gates (slice_ind
 
 -- the wires of a bundle have one driver
 abbrev pub OneDriver : List Link → Type 0
-OneDriver links = (j k : ℕ) → j < length links → k < length links → (get_or links j no_link).bundle ≡ (get_or links k no_link).bundle → (get_or links j no_link).driver ≡ (get_or links k no_link).driver
+OneDriver links = (j k : ℕ) → j < length links → k < length links → (slice_index_or links j no_link).bundle ≡ (slice_index_or links k no_link).bundle → (slice_index_or links j no_link).driver ≡ (slice_index_or links k no_link).driver
 
 abbrev pub Near : ℕ → List ℤ → Type 0
 Near gates lags = (g : ℕ) → g < gates → unsigned_abs (lags_of lags g) ≤ 1048575

@@ -1,5 +1,5 @@
 -- Hops that a search leaves: an open arc leads into each marked node of a hop above 0, from a marked node one hop lower.
-use Rattle.std.specs.Prelude.{◌≡◌, ℕ, ◌+◌, ◌<◌, ◌≤◌, true, ◌⊎◌, List, slice_index, slice_index_or}
+use Rattle.std.specs.Prelude.{◌≡◌, ℕ, ◌+◌, ◌<◌, ◌≤◌, true, ◌⊎◌, List, slice_index}
 use Rattle.graph.specs.Digraph.{Digraph}
 
 -- arc a is the last on a way to node v
@@ -8,8 +8,8 @@ pub record LastArc (g : Digraph) (marks hops : List ℕ) (v a : ℕ) : Type 0 wh
   pub opened : g.opens a ≡ true
   pub enters : g.to a ≡ v
   pub inside : g.from a < g.nodes
-  pub marked : slice_index_or marks (g.from a) 0 ≡ 1
-  pub lower : slice_index_or hops v 0 ≡ slice_index hops (g.from a) + 1
+  pub marked : slice_index marks (g.from a) ≡ 1
+  pub lower : slice_index hops v ≡ slice_index hops (g.from a) + 1
 
 abbrev pub Hopped : Digraph → List ℕ → List ℕ → ℕ → Type 0
 Hopped g marks hops v = (slice_index hops v ≡ 0) ⊎ ((a : ℕ) × LastArc g marks hops v a)

@@ -69,7 +69,8 @@ fn are_standing(gates: usize, links: &[Link], lags: &[i32]) -> bool
 
 // Whether the wires of each bundle have one driver: the first wire of a bundle says which.
 fn has_one_driver(gates: usize, links: &[Link]) -> bool
-    requires sized { (AllSized gates links.now) × (gates ≤ 1024) }
+    requires sized { AllSized gates links.now }
+    requires few { gates ≤ 1024 }
     ensures { MatchBool result (OneDriver links.now) (OneDriver links.now → ⊥) }
 {
     let mut owners = [1024u16; 4096];

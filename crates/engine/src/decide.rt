@@ -48,7 +48,8 @@ pub(crate) fn write_shares(gates: usize, links: &[Link], holders: &[u16], row: &
 
 // Copies the first so many numbers of a row.
 pub(crate) fn copy_front(count: usize, from: &[u16], row: &mut [u16])
-    requires { (count ≤ length from.now) × (count ≤ length row.old) }
+    requires long { count ≤ length from.now }
+    requires room { count ≤ length row.old }
     ensures written { (k : ℕ) → k < count → slice_index row.new k ≡ slice_index from.now k }
     ensures past { (k : ℕ) → count ≤ k → slice_index row.new k ≡ slice_index row.old k }
 {

@@ -1,6 +1,6 @@
 // The engine's rows, each in one pass over the wires: the counts under lags, the holders of the bundles'
 // shares, the gates' gains and costs, and the registers that the lags need.
-ghost use Rattle.std.specs.Prelude.{◌≡◌, ℕ, ◌+◌, ◌<◌, ◌≤◌, List, length, get_or, ℤ, pos, ◌+ℤ◌, ◌-ℤ◌, ◌≤ℤ◌, if◌then◌else◌, nat_eq, slice_index, slice_index_or, unsigned_abs};
+ghost use Rattle.std.specs.Prelude.{◌≡◌, ℕ, ◌+◌, ◌<◌, ◌≤◌, List, length, ℤ, pos, ◌+ℤ◌, ◌-ℤ◌, ◌≤ℤ◌, if◌then◌else◌, slice_index, slice_index_or, unsigned_abs, ◌==◌};
 ghost use Rattle.netlist.specs.Lags.{needs};
 ghost use Rattle.engine.specs.Rows.{Depths, Holding, Priced};
 ghost use Rattle.engine.specs.Table.{Tabled, Standing, table, bundles, lags_of};
@@ -61,7 +61,7 @@ pub(crate) fn choose_holders(gates: usize, links: &[Link], depths: &[u32], holde
 
 // The share of a wire, where its bundle has this holder.
 fn share(holder: u16, wire: usize) -> u32
-    ensures value { result ≡ (if nat_eq holder wire then 1 else 0) }
+    ensures value { result ≡ (if holder == wire then 1 else 0) }
     ensures bit { result ≤ 1 }
 {
     if holder as usize == wire { 1 } else { 0 }
@@ -82,9 +82,9 @@ fn add(row: &mut [u32], share_end: u16, share: u32, flow_end: u16, flow: u16)
     requires share_gate { share_end < length row.old }
     requires flow_gate { flow_end < length row.old }
     requires bit { share ≤ 1 }
-    requires share_room { get_or row.old share_end 0 ≤ 4294901759 }
-    requires flow_room { get_or row.old flow_end 0 ≤ 4294901759 }
-    ensures { (g : ℕ) → slice_index row.new g ≡ slice_index row.old g + (if nat_eq share_end g then share else 0) + (if nat_eq flow_end g then flow else 0) }
+    requires share_room { slice_index row.old share_end ≤ 4294901759 }
+    requires flow_room { slice_index row.old flow_end ≤ 4294901759 }
+    ensures { (g : ℕ) → slice_index row.new g ≡ slice_index row.old g + (if share_end == g then share else 0) + (if flow_end == g then flow else 0) }
 {
     row[share_end as usize] += share;
     row[flow_end as usize] += flow as u32;

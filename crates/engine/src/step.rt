@@ -38,7 +38,8 @@ fn slack_at(
     requires marks { gates ≤ length marks.now }
     requires held { holder links.now holders.now k < length links.now }
     requires open { SlackAt way links.now depths.now holders.now marks.now 1 k }
-    ensures some { (0 < result) × (result ≤ 2097152) }
+    ensures some { 0 < result }
+    ensures small { result ≤ 2097152 }
     ensures slack { SlackAt way links.now depths.now holders.now marks.now result k }
 {
     let link = links[k];
@@ -68,7 +69,8 @@ pub(crate) fn slack(
     requires held { (k : ℕ) → k < length links.now → holder links.now holders.now k < length links.now }
     requires marks { gates ≤ length marks.now }
     requires open { Slack way links.now depths.now holders.now marks.now 1 }
-    ensures some { (0 < result) × (result ≤ 2097152) }
+    ensures some { 0 < result }
+    ensures small { result ≤ 2097152 }
     ensures slack { Slack way links.now depths.now holders.now marks.now result }
 {
     let mut least = FAR;
@@ -80,7 +82,8 @@ pub(crate) fn slack(
 
 // A lag that is near 0, moved.
 fn pushed(way: Way, by: u32, lag: i32) -> i32
-    requires { (unsigned_abs lag ≤ 1048575) × (by ≤ 2097152) }
+    requires near { unsigned_abs lag ≤ 1048575 }
+    requires small { by ≤ 2097152 }
     ensures { result ≡ push way by lag }
 {
     match way {

@@ -62,7 +62,8 @@ fn pin_row<N: Netlist>(heap: Global, net: &N) -> Result<Vec<bool>, AllocError>
 
 // Wire k, with its count times the factor.
 fn scaled_wire<N: Netlist>(net: &N, factor: u32, k: usize) -> Wire
-    requires { (Passes factor (N.meaning net.now)) × (k < (N.meaning net.now).wires) }
+    requires passes { Passes factor (N.meaning net.now) }
+    requires within { k < (N.meaning net.now).wires }
     ensures { result ≡ wire_of (times factor (N.meaning net.now)) k }
 {
     let (driver, driven, count) = net.wire(k);

@@ -1,5 +1,5 @@
 -- Bundles of wires that share registers, and the registers that a netlist needs.
-use Rattle.std.specs.Prelude.{ℕ, zero, suc, max, Bool, cond, ◌&&◌, ◌==◌, nat_eq}
+use Rattle.std.specs.Prelude.{ℕ, zero, suc, max, Bool, cond, ◌&&◌, ◌==◌}
 use Rattle.graph.specs.Sums.{total}
 use Rattle.netlist.specs.Net.{Net}
 
@@ -26,7 +26,7 @@ tally_of n mark = tally_under 4096 n mark
 
 -- the sum over gates of the greatest count that leaves each: what is needed where all wires of a driver share
 abbrev pub shared_sum : Net → ℕ
-shared_sum n = total (λ g. greatest (λ k. nat_eq (n.driver k) g) n.count n.wires) n.gates
+shared_sum n = total (λ g. greatest (λ k. n.driver k == g) n.count n.wires) n.gates
 
 -- the sum of all counts: what is needed where each wire has its registers alone
 abbrev pub alone_sum : Net → ℕ

@@ -41,7 +41,8 @@ fn pin_number<N: Netlist>(net: &N) -> Result<usize, WriteFault>
 
 // Number j of those behind the sizes: the ends of each wire, then the count of each wire.
 fn number_behind<N: Netlist>(net: &N, j: usize) -> u16
-    requires { (Small (N.meaning net.now)) × (j < 3 * (N.meaning net.now).wires) }
+    requires small { Small (N.meaning net.now) }
+    requires within { j < 3 * (N.meaning net.now).wires }
     ensures { result ≡ behind_of (N.meaning net.now) j }
 {
     let ends = 2 * net.wire_count();
@@ -60,7 +61,9 @@ fn number_behind<N: Netlist>(net: &N, j: usize) -> u16
 
 // Number j of the file.
 fn number_at<N: Netlist>(net: &N, pins: usize, j: usize) -> u16
-    requires { (Small (N.meaning net.now)) × ((pins ≤ (N.meaning net.now).gates) × (j < 3 + 3 * (N.meaning net.now).wires)) }
+    requires small { Small (N.meaning net.now) }
+    requires pinned { pins ≤ (N.meaning net.now).gates }
+    requires within { j < 3 + 3 * (N.meaning net.now).wires }
     ensures { result ≡ number_of (N.meaning net.now) pins j }
 {
     if j >= 3 {

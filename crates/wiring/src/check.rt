@@ -39,7 +39,8 @@ fn deep_wire(limit: u32, wires: &[Wire]) -> Option<usize>
 
 // Whether wires without a register lead from one gate to another.
 fn leads(wires: &Wires<'_>, from: usize, to: usize) -> bool
-    requires { (from < wires.now.gates) × (to < wires.now.gates) }
+    requires from_within { from < wires.now.gates }
+    requires to_within { to < wires.now.gates }
     ensures { MatchBool result (Leads (wires_graph wires.now) from to) (Leads (wires_graph wires.now) from to → ⊥) }
 {
     let mut marks = [0u8; 1024];
@@ -100,7 +101,8 @@ fn round_wire(wires: &Wires<'_>) -> Option<usize>
 
 // Checks the wires between so many gates, whichever of them are pinned.
 fn check_wires(limit: u32, gates: usize, wires: &[Wire]) -> Result<(), CheckFault>
-    requires { (gates ≤ 1024) × (length wires.now ≤ 4096) }
+    requires few { gates ≤ 1024 }
+    requires short { length wires.now ≤ 4096 }
     ensures { (pinned : ℕ → Bool) → MatchResult result (λ _. WiresPass limit (wired gates pinned wires.now)) (WiresFail limit (wired gates pinned wires.now)) }
 {
     if let Some(k) = stray_wire(gates, wires) {

@@ -1,5 +1,5 @@
 // A netlist in memory, made from a list of wires that has passed its check.
-ghost use Rattle.std.specs.Prelude.{◌≡◌, ℕ, ◌<◌, ◌≤◌, Bool, false, length, get_or, IfOk, vec_len, nat_lt, slice_index_or};
+ghost use Rattle.std.specs.Prelude.{◌≡◌, ℕ, ◌<◌, ◌≤◌, Bool, false, length, IfOk, vec_len, nat_lt, slice_index_or};
 ghost use Rattle.wiring.specs.Check.{WiresPass};
 ghost use Rattle.wiring.specs.List.{no_gates, OpensPinned};
 ghost use Rattle.wiring.specs.Wires.{wired};
@@ -25,8 +25,8 @@ impl Wiring {
     pub(crate) fn new(heap: Global, pins: Vec<bool>, wires: &[Wire]) -> Result<Wiring, AllocError>
         requires gates { vec_len pins ≤ 1024 }
         requires few { length wires.now ≤ 4096 }
-        requires pass { WiresPass 1048575 (wired (vec_len pins) (λ g. get_or pins.items g false) wires.now) }
-        ensures { IfOk result (λ w. wiring_net w ≡ wired (vec_len pins) (λ g. get_or pins.items g false) wires.now) }
+        requires pass { WiresPass 1048575 (wired (vec_len pins) (λ g. slice_index_or pins.items g false) wires.now) }
+        ensures { IfOk result (λ w. wiring_net w ≡ wired (vec_len pins) (λ g. slice_index_or pins.items g false) wires.now) }
     {
         let wires = Vec::from_slice(heap, wires)?;
         Ok(Wiring { pins, wires })
@@ -45,7 +45,7 @@ impl Wiring {
     // The netlist of a list of wires, with a pin or none for each gate. It never refuses: a list that has a fault
     // opens as the netlist without gates.
     pub fn open(heap: Global, pins: Vec<bool>, wires: &[Wire]) -> Result<Wiring, AllocError>
-        ensures { IfOk result (λ w. OpensPinned (vec_len pins) (λ g. get_or pins.items g false) wires.now (wiring_net w)) }
+        ensures { IfOk result (λ w. OpensPinned (vec_len pins) (λ g. slice_index_or pins.items g false) wires.now (wiring_net w)) }
     {
         match check_up_to(1_048_575, pins.len(), 0, wires) {
             Ok(()) => Wiring::new(heap, pins, wires),

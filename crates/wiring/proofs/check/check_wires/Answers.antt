@@ -5,8 +5,8 @@ use Rattle.wiring.proofs.check.check_wires.Goals as goal
 
 pub invariant_of-wires : goal.invariant_of-wires
 invariant_of-wires c = record {
-  few = c.requires.0;
-  short = c.requires.1;
+  few = c.requires.few;
+  short = c.requires.short;
   within = λ k within. ends_of (wired c.args.gates (λ _. false) c.args.wires.now) k (c.in_default.ensures (λ _. false) k within);
 }
 
