@@ -22,6 +22,7 @@ pub trait Netlist: Graph {
         ensures value { result ≡ ((meaning self.now).driver k, (meaning self.now).driven k, (meaning self.now).count k) }
         ensures arcs { Self.Graph.shape self.now ≡ graph_of (meaning self.now) };
 
+    // The laws, which each implementation proves. They stand below the last question: above it they would be data.
     ghost few_gates: { (x : Self) → (meaning x).gates ≤ 1024 };
 
     ghost few_wires: { (x : Self) → (meaning x).wires ≤ 4096 };

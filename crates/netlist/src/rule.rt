@@ -10,6 +10,7 @@ pub trait Sharing {
     fn mark(&self, driver: usize, driven: usize, wire: usize) -> usize
         ensures { result ≡ marking self.now driver driven wire };
 
+    // A law, which each rule proves. It stands below the last question: above it it would be data.
     ghost small: { (s : Self) (u v k : ℕ) → k < 4096 → marking s u v k < 4096 };
 }
 
