@@ -5,7 +5,8 @@ usage: python3 tools/respell.py    at the top of the repository, once, after por
 
 A type or a fact goes to camel case (Path-law: PathLaw), every other name to snake case (greatest-le: greatest_le).
 Names of functions in src/, of the library, and names that Rattle makes (loop-k-preserved, c.arc-to) keep their spelling,
-as do comments and strings. Must-fail edits are left alone: they are brought over by hand.
+as do lines of comment; a string, or a comment behind code, would be respelled too, and none here holds such a name.
+Must-fail edits are left alone: none needed a change.
 """
 import collections
 import os
@@ -51,7 +52,7 @@ def declared(line):
 
 def own_names(texts):
     """Every name with a dash that stands in a file of specs/ or proofs/ and is neither the library's nor made by Rattle."""
-    found, goals = set(), set()
+    found = set()
     for path, lines in texts.items():
         if not path.endswith(".antt"):
             continue
@@ -79,6 +80,8 @@ def spelled(name):
 def main():
     texts = {p: open(p, encoding="utf-8").read().split("\n") for p in files()}
     names = {n: spelled(n) for n in own_names(texts)}
+    if not names:
+        sys.exit("nothing to respell")
     together = [n for n, k in collections.Counter(names.values()).items() if k > 1]
     if together:
         sys.exit(f"names that fall together: {together}")
