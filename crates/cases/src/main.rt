@@ -30,8 +30,8 @@ fn listed(heap: Global, bytes: &[u8]) -> anyhow::Result<String> {
             let answer = rewritten(heap, bytes)?;
             Ok(format!(in heap; "{text}rewritten: {answer}\n")?)
         }
-        Err(fault) => match fault.told() {
-            Some((number, _)) => Ok(refused(heap, number)?),
+        Err(fault) => match fault.refusal() {
+            Some(refusal) => Ok(refused(heap, refusal.number)?),
             None => Err(anyhow!("out of memory")),
         },
     }

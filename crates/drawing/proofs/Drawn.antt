@@ -1,10 +1,10 @@
 -- The wires read off a file are those of the netlist that its bytes draw.
-use Rattle.std.proofs.Common.{◌≡◌, ℕ, ◌+◌, ◌-◌, ◌*◌, ◌<◌, ◌≤◌, Bool, ltb, List, length, get_or, take, drop, sym, refl, ap, ◌∙◌, subst, ap₂, ⊎_elim, arith}
+use Rattle.std.proofs.Common.{◌≡◌, ℕ, ◌+◌, ◌*◌, ◌<◌, ltb, List, length, get_or, take, drop, sym, refl, ap, ◌∙◌, subst, ap₂, ⊎_elim, arith}
 use Rattle.std.proofs.lemmas.List.{get_or-drop, get_or_past, get_or-take, length-take-le}
 use Rattle.std.proofs.lemmas.Bool.{cases_lt, lt-ltb, le-ltb, cond-true, cond-false}
 use Rattle.wiring.specs.declared.fault.CheckFault.{CheckFault}
 use Rattle.wiring.specs.declared.fault.CheckFault.TheVariants.{ShortFile, TooLarge, WrongLength, NoGate, CountTooLarge, FreeRound}
-use Rattle.drawing.specs.declared.file.Sizes.{Sizes}
+use Rattle.drawing.specs.declared.parsed.Sizes.{Sizes}
 use Rattle.wiring.specs.declared.wire.Wire.{Wire}
 use Rattle.wiring.specs.Check.{Fits, WiresPass, WiresFail}
 use Rattle.drawing.specs.File.{word, gates_in, pins_in, wires_in, wire_in, wire_or_none, drawn, Accepts, Refuses}
@@ -42,26 +42,22 @@ module _ (b : List ℕ) (ws : List Wire) (long : length ws ≡ wires_in b) (read
   }
 
 -- a list filled from the bytes behind the sizes holds the wires of b
-pub read_are : (b : List ℕ) (s : Sizes) → SizesOf b s → (rest : List ℕ) → rest ≡ drop 6 b → (list : List Wire) → ((k : ℕ) → k < s.wires → get_or list k no_wire ≡ wire_behind rest s.wires k) → (k : ℕ) → k < wires_in b → get_or list k no_wire ≡ wire_in b k
-read_are b s of rest behind list filled k l = filled k (omega (arith, of.wires_are)) ∙ ap₂ (λ r w. wire_behind r w k) behind of.wires_are ∙ behind_is b k
+pub read_are : {b rest : List ℕ} {s : Sizes} → SizesOf b s × (rest ≡ drop 6 b) → (list : List Wire) → ((k : ℕ) → k < s.wires → get_or list k no_wire ≡ wire_behind rest s.wires k) → (k : ℕ) → k < wires_in b → get_or list k no_wire ≡ wire_in b k
+read_are {b = b} sizes list filled k l =
+    let wires = sizes.0.wires_are in
+    filled k (omega (arith, wires)) ∙ ap₂ (λ r w. wire_behind r w k) sizes.1 wires ∙ behind_is b k
 
--- the wires of b stand at the front of a list
-module _ (b : List ℕ) (s : Sizes) (of : SizesOf b s) (list : List Wire) (room : 4096 ≤ length list) (read : (k : ℕ) → k < wires_in b → get_or list k no_wire ≡ wire_in b k) where
-  abbrev front : List Wire
-  front = take (s.wires - 0) list
+-- ws is the front of a list that begins with the wires of b
+module _ {b : List ℕ} {s : Sizes} {ws : List Wire} (of : SizesOf b s) (list : List Wire) (room : length list ≡ 4096) (read : (k : ℕ) → k < wires_in b → get_or list k no_wire ≡ wire_in b k) (front : ws ≡ take s.wires list) where
+  pub front_long : length ws ≡ wires_in b
+  front_long = ap length front ∙ length-take-le s.wires list (omega (arith, of.wires_are, of.sized.fits.wires_fit)) ∙ of.wires_are
 
-  abbrev pins : ℕ → Bool
-  pins g = ltb g s.pins
-
-  pub front_long : length front ≡ wires_in b
-  front_long = length-take-le (s.wires - 0) list (omega (arith, of.wires_are, of.sized.fits.wires_fit)) ∙ omega (arith, of.wires_are)
-
-  pub front_is : wired s.gates pins front ≡ drawn b
+  pub front_is : wired s.gates (λ g. ltb g s.pins) ws ≡ drawn b
   front_is =
-      ap₂ (λ g p. wired g (λ j. ltb j p) front) of.gates_are of.pins_are
-      ∙ drawn_is b front front_long (λ k l. get_or-take (s.wires - 0) list k no_wire (omega (arith, of.wires_are)) ∙ read k l)
+      ap₂ (λ g p. wired g (λ j. ltb j p) ws) of.gates_are of.pins_are
+      ∙ drawn_is b ws front_long (λ k l. ap (λ xs. get_or xs k no_wire) front ∙ get_or-take s.wires list k no_wire (omega (arith, of.wires_are)) ∙ read k l)
 
-  pub front_fits : Fits s.gates s.pins (length front)
+  pub front_fits : Fits s.gates s.pins (length ws)
   front_fits =
       let fits = of.sized.fits in
       record {
@@ -70,10 +66,10 @@ module _ (b : List ℕ) (s : Sizes) (of : SizesOf b s) (list : List Wire) (room 
         pins_fit = omega (arith, of.pins_are, of.gates_are, fits.pins_fit);
       }
 
-  pub front_passes : Passes 255 s.gates s.pins front → Accepts b
+  pub front_passes : Passes 255 s.gates s.pins ws → Accepts b
   front_passes told = record { sized = of.sized; pass = subst (WiresPass 255) front_is told.wires }
 
-  pub front_fails : (f : CheckFault) → Fails 255 s.gates s.pins front f → Refuses b f
+  pub front_fails : (f : CheckFault) → Fails 255 s.gates s.pins ws f → Refuses b f
   front_fails ShortFile told = absurd told
   front_fails TooLarge told = absurd (told front_fits)
   front_fails WrongLength told = absurd told
@@ -82,7 +78,7 @@ module _ (b : List ℕ) (s : Sizes) (of : SizesOf b s) (list : List Wire) (room 
   front_fails (FreeRound k) told = (of.sized, subst (λ n. WiresFail 255 n (FreeRound k)) front_is told.1)
 
   -- the file's limit on counts is below that of a list
-  pub front_kept : Accepts b → Passes 1048575 s.gates s.pins front
+  pub front_kept : Accepts b → Passes 1048575 s.gates s.pins ws
   front_kept ok =
       let pass = subst (WiresPass 255) (sym front_is) ok.pass in
       record { sizes = front_fits; wires = record { ends = pass.ends; counts = λ k l deep. pass.counts k l (omega arith); rounds = pass.rounds } }

@@ -1,30 +1,17 @@
 // A drawing as a file: its check, and its opening as a netlist in memory.
-ghost use Rattle.std.specs.Prelude.{◌≡◌, ℕ, ◌+◌, ◌*◌, ◌<◌, ◌≤◌, length, drop, IfOk, MatchResult, slice_index_or};
-ghost use Rattle.drawing.specs.File.{word, Sized, Accepts, Refuses, Opened};
-ghost use Rattle.drawing.specs.Parsed.{SizesOf, wire_behind, ParsedFrom};
+ghost use Rattle.std.specs.Prelude.{◌≡◌, ℕ, ◌+◌, ◌*◌, ◌<◌, ◌≤◌, length, take, drop, IfOk, MatchResult, slice_index_or};
+ghost use Rattle.drawing.specs.File.{Accepts, Refuses, Opened};
+ghost use Rattle.drawing.specs.Parsed.{SizesOf, wire_from, wire_behind, ParsedFrom};
 ghost use Rattle.wiring.specs.Wires.{no_wire};
 ghost use Rattle.wiring.specs.Wiring.{wiring_net};
 
+use crate::parsed::{Parsed, Sizes};
 use std::alloc::{AllocError, Global};
 use wiring::check::check_up_to;
 use wiring::fault::CheckFault;
 use wiring::list;
 use wiring::owned::Wiring;
 use wiring::wire::Wire;
-
-#[derive(Clone, Copy)]
-pub(crate) struct Sizes {
-    gates: usize,
-    pins: usize,
-    wires: usize,
-}
-
-// A 16-bit number, low byte first.
-fn number(low: u8, high: u8) -> u16
-    ensures { result ≡ low + 256 * high }
-{
-    low as u16 + 256 * high as u16
-}
 
 // The three sizes, within their limits, and the bytes of as many wires.
 fn read_sizes(bytes: &[u8]) -> Result<(Sizes, &[u8]), CheckFault>
@@ -33,9 +20,9 @@ fn read_sizes(bytes: &[u8]) -> Result<(Sizes, &[u8]), CheckFault>
     let [g0, g1, p0, p1, w0, w1, rest @ ..] = bytes else {
         return Err(CheckFault::ShortFile);
     };
-    let gates = number(*g0, *g1) as usize;
-    let pins = number(*p0, *p1) as usize;
-    let wires = number(*w0, *w1) as usize;
+    let gates = u16::from_le_bytes([*g0, *g1]) as usize;
+    let pins = u16::from_le_bytes([*p0, *p1]) as usize;
+    let wires = u16::from_le_bytes([*w0, *w1]) as usize;
     if gates > 1024 || wires > 4096 || pins > gates {
         return Err(CheckFault::TooLarge);
     }
@@ -45,56 +32,44 @@ fn read_sizes(bytes: &[u8]) -> Result<(Sizes, &[u8]), CheckFault>
     Ok((Sizes { gates, pins, wires }, rest))
 }
 
-// Wire k of so many, from the bytes behind the sizes.
-fn read_wire(rest: &[u8], wires: usize, k: usize) -> Wire
-    requires exact { length rest.now ≡ 6 * wires }
-    requires within { k < wires }
-    requires few { wires ≤ 4096 }
-    ensures { result ≡ wire_behind rest.now wires k }
+// A wire from the bytes of its two ends and those of its count.
+fn read_wire(ends: [u8; 4], count: [u8; 2]) -> Wire
+    ensures { result ≡ wire_from ends count }
 {
-    let ends = 4 * k;
-    let count = 4 * wires + 2 * k;
+    let [u0, u1, v0, v1] = ends;
     Wire {
-        driver: number(rest[ends], rest[ends + 1]),
-        driven: number(rest[ends + 2], rest[ends + 3]),
-        count: number(rest[count], rest[count + 1]) as u32,
+        driver: u16::from_le_bytes([u0, u1]),
+        driven: u16::from_le_bytes([v0, v1]),
+        count: u16::from_le_bytes(count) as u32,
     }
 }
 
-// All wires, from the bytes behind the sizes, into the front of a list.
-fn read_wires(rest: &[u8], wires: usize, list: &mut [Wire])
+// So many wires from the bytes behind the sizes, at the front of an array.
+fn read_wires(rest: &[u8], wires: usize) -> [Wire; 4096]
     requires exact { length rest.now ≡ 6 * wires }
-    requires room { wires ≤ length list.old }
     requires few { wires ≤ 4096 }
-    ensures { (k : ℕ) → k < wires → slice_index_or list.new k no_wire ≡ wire_behind rest.now wires k }
+    ensures { (k : ℕ) → k < wires → slice_index_or result k no_wire ≡ wire_behind rest.now wires k }
 {
-    for k in 0..wires {
-        list[k] = read_wire(rest, wires, k);
+    let (front, back) = rest.split_at(4 * wires);
+    let (ends, _) = front.as_chunks::<4>();
+    let (counts, _) = back.as_chunks::<2>();
+    let mut list = [Wire::default(); 4096];
+    // By index, since the proof does not close over counts that are zipped to the ends.
+    for (k, ends) in ends.iter().enumerate() {
+        list[k] = read_wire(*ends, counts[k]);
     }
+    list
 }
 
 // What an accepted file says.
-#[derive(Drop)]
-pub(crate) struct Parsed {
-    sizes: Sizes,
-    wires: [Wire; 4096],
-}
-
-const NO_WIRE: Wire = Wire {
-    driver: 0,
-    driven: 0,
-    count: 0,
-};
-
 fn parse(bytes: &[u8]) -> Result<Parsed, CheckFault>
     ensures { MatchResult result (ParsedFrom bytes.now) (Refuses bytes.now) }
 {
     let (sizes, rest) = read_sizes(bytes)?;
-    let count = sizes.wires;
-    let mut wires = [NO_WIRE; 4096];
-    read_wires(rest, count, &mut wires);
-    check_up_to(255, sizes.gates, sizes.pins, &wires[0..count])?;
-    Ok(Parsed { sizes, wires })
+    let list = read_wires(rest, sizes.wires);
+    let parsed = Parsed { sizes, list };
+    check_up_to(255, sizes.gates, sizes.pins, parsed.wires())?;
+    Ok(parsed)
 }
 
 // Checks a file completely. It leaves nothing to opening, which checks again.
@@ -112,8 +87,7 @@ pub fn open(heap: Global, bytes: &[u8]) -> Result<Wiring, AllocError>
     match parse(bytes) {
         Ok(parsed) => {
             let sizes = parsed.sizes;
-            let count = sizes.wires;
-            list::open(heap, sizes.gates, sizes.pins, &parsed.wires[0..count])
+            list::open(heap, sizes.gates, sizes.pins, parsed.wires())
         }
         Err(_) => Ok(Wiring::empty(heap)),
     }

@@ -1,45 +1,56 @@
 -- The loop that chains the arcs: no arc is chained at first, and one more with each turn.
-use Rattle.std.proofs.Common.{◌≡◌, ℕ, ◌+◌, ◌-◌, ◌<◌, List, length, get_or, set, sym, refl, ◌∙◌, subst, inl, inr, arith}
-use Rattle.std.proofs.lemmas.List.{get_or-set_same, get_or-set_other}
-use Rattle.std.proofs.lemmas.Bool.{cases_eq}
+use Rattle.std.proofs.Common.{◌≡◌, ℕ, ◌+◌, ◌<◌, List, Option, Some, None, length, get_or, set, replicate, sym, refl, ◌∙◌, subst, inl, inr, arith}
+use Rattle.std.proofs.lemmas.List.{get_or-replicate, get_or_past, length-replicate, length-set, get_or-set_same, get_or-set_other}
+use Rattle.std.proofs.lemmas.Bool.{cases_eq, cases_lt}
 use Rattle.graph.specs.Digraph.{Digraph}
+use Rattle.graph.specs.declared.chains.Chains.{Chains}
 use Rattle.graph.specs.Chains.{Last, Linked}
 
-pub linked_none : (g : Digraph) (first next : List ℕ) → ((v : ℕ) → get_or first v 0 ≡ 0) → Linked g 0 first next
-linked_none g first next clear = record {
-  begins = λ v. record { leaves = λ some. elim (none v some) [ ]; none_after = λ a h e. omega arith };
-  goes_on = λ i h. elim (none_below i h) [ ];
+fresh : (n k : ℕ) → get_or {A = Option ℕ} (replicate n None) k None ≡ None
+fresh n k = elim (cases_lt k n) [ inl h ↦ get_or-replicate n k None None h | inr h ↦ get_or_past (replicate n None) k None (omega (arith, length-replicate {A = Option ℕ} n None)) ]
+
+-- the loop's invariant: the arcs below m are chained, in arrays that are as long as ever
+pub record Chaining (g : Digraph) (m : ℕ) (chains : Chains) : Type 0 where
+  pub linked : Linked g m chains
+  pub first_long : length chains.first ≡ 8192
+  pub next_long : length chains.next ≡ 32768
+
+pub chaining_none : (g : Digraph) → Chaining g 0 (record { first = replicate 8192 None; next = replicate 32768 None })
+chaining_none g = record {
+  linked = record {
+    few = omega arith;
+    begins = λ v. rw (fresh 8192 v) (λ a h e. omega arith);
+    goes_on = λ i h. elim (none_below i h) [ ];
+  };
+  first_long = length-replicate {A = Option ℕ} 8192 None;
+  next_long = length-replicate {A = Option ℕ} 32768 None;
 }
   where
-    none : (v : ℕ) → 0 < get_or first v 0 → ⊥
-    none v some = omega (arith, clear v)
-
     none_below : (i : ℕ) → i < 0 → ⊥
     none_below i h = omega arith
 
 module _ (g : Digraph) (i : ℕ) where
-  -- arc i is the last below i + 1 that leaves its node
-  last_here : Last g (g.from i) (i + 1) (i + 1)
-  last_here = record {
-    leaves = λ some. let e : i ≡ (i + 1) - 1 = omega arith in (omega arith, subst (λ (j : ℕ). g.from j ≡ g.from i) e refl);
-    none_after = λ a h leaves. h;
-  }
+  -- an arc below i + 1 that leaves another node than arc i is below i
+  below : (v : ℕ) → (v ≡ g.from i → ⊥) → (a : ℕ) → a < i + 1 → g.from a ≡ v → a < i
+  below v other a h leaves = elim (cases_eq a i) [ inl e ↦ elim (other (subst (λ (j : ℕ). v ≡ g.from j) e (sym leaves))) [ ] | inr ne ↦ omega arith ]
 
-  last_elsewhere : (v k : ℕ) → (v ≡ g.from i → ⊥) → Last g v i k → Last g v (i + 1) k
-  last_elsewhere v k other last = record {
-    leaves = λ some. (omega (arith, (last.leaves some).0), (last.leaves some).1);
-    none_after = λ a h leaves.
-        elim (cases_eq a i) [ inl e ↦ elim (other (subst (λ (j : ℕ). v ≡ g.from j) e (sym leaves))) [ ] | inr ne ↦ last.none_after a (omega arith) leaves ];
-  }
+  last_elsewhere : (v : ℕ) (link : Option ℕ) → (v ≡ g.from i → ⊥) → Last g v i link → Last g v (i + 1) link
+  last_elsewhere v None other last = λ a h leaves. last a (below v other a h leaves) leaves
+  last_elsewhere v (Some k) other last = (omega (arith, last.0), last.1, λ a h leaves. last.2 a (below v other a h leaves) leaves)
 
-  pub linked_more : (u : ℕ) (first next : List ℕ) → u ≡ g.from i → u < length first → i < length next → Linked g i first next → Linked g (i + 1) (set first u (i + 1)) (set next i (get_or first u 0))
-  linked_more u first next from_is node arc old = record {
-    begins = λ v. elim (cases_eq v u) [ inl e ↦ begins_here v e | inr ne ↦ rw (get_or-set_other first u v (i + 1) 0 ne) (last_elsewhere v (get_or first v 0) (λ e. ne (e ∙ sym from_is)) (old.begins v)) ];
-    goes_on = λ j h. elim (cases_eq j i) [ inl e ↦ goes_on_here j e | inr ne ↦ rw (get_or-set_other next i j (get_or first u 0) 0 ne) (old.goes_on j (omega arith)) ];
+  pub chaining_more : (u : ℕ) (first next : List (Option ℕ)) → u ≡ g.from i → u < 8192 → i < 32768 → Chaining g i (record { first = first; next = next }) → Chaining g (i + 1) (record { first = set first u (Some i); next = set next i (get_or first u None) })
+  chaining_more u first next from_is node arc old = record {
+    linked = record {
+      few = omega arith;
+      begins = λ v. elim (cases_eq v u) [ inl e ↦ begins_here v e | inr ne ↦ rw (get_or-set_other first u v (Some i) None ne) (last_elsewhere v (get_or first v None) (λ e. ne (e ∙ sym from_is)) (old.linked.begins v)) ];
+      goes_on = λ j h. elim (cases_eq j i) [ inl e ↦ goes_on_here j e | inr ne ↦ rw (get_or-set_other next i j (get_or first u None) None ne) (old.linked.goes_on j (omega arith)) ];
+    };
+    first_long = length-set first u (Some i) ∙ old.first_long;
+    next_long = length-set next i (get_or first u None) ∙ old.next_long;
   }
     where
-      begins_here : (v : ℕ) → v ≡ u → Last g v (i + 1) (get_or (set first u (i + 1)) v 0)
-      begins_here v e = rw (e, get_or-set_same first u (i + 1) 0 node, from_is) last_here
+      begins_here : (v : ℕ) → v ≡ u → Last g v (i + 1) (get_or (set first u (Some i)) v None)
+      begins_here v e = rw (e, get_or-set_same first u (Some i) None (omega (arith, old.first_long)), from_is) (omega arith, refl, λ a h leaves. omega arith)
 
-      goes_on_here : (j : ℕ) → j ≡ i → Last g (g.from j) j (get_or (set next i (get_or first u 0)) j 0)
-      goes_on_here j e = rw (e, get_or-set_same next i (get_or first u 0) 0 arc, from_is) (old.begins (g.from i))
+      goes_on_here : (j : ℕ) → j ≡ i → Last g (g.from j) j (get_or (set next i (get_or first u None)) j None)
+      goes_on_here j e = rw (e, get_or-set_same next i (get_or first u None) None (omega (arith, old.next_long)), from_is) (old.linked.begins (g.from i))

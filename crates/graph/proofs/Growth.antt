@@ -1,12 +1,12 @@
 -- Marks and hops that spread along open arcs: not at all, to one node more, and one growth after another.
-use Rattle.std.proofs.Common.{◌≡◌, ℕ, ◌+◌, ◌<◌, ◌≤◌, true, List, length, get_or, set, refl, ◌∙◌, inl, inr, arith}
-use Rattle.std.proofs.lemmas.List.{get_or-set_same, get_or-set_other}
+use Rattle.std.proofs.Common.{◌≡◌, ℕ, ◌+◌, ◌<◌, true, List, length, get_or, refl, ◌∙◌, inl, inr, arith}
 use Rattle.std.proofs.lemmas.Bool.{cases_eq}
 use Rattle.graph.specs.Digraph.{Digraph}
 use Rattle.graph.specs.Reach.{Reached, begin, along}
-use Rattle.graph.specs.Frontier.{Queued, Spread, Paced, Grown, Found}
+use Rattle.graph.specs.declared.reach.Front.{Front}
+use Rattle.graph.specs.Frontier.{Queued, Enqueued, Spread, Paced, Grown, Found}
 use Rattle.graph.specs.Trace.{Entered}
-use Rattle.graph.proofs.Queueing.{tail_lt, hop_lt, one_from_pos, queued_new}
+use Rattle.graph.proofs.Queueing.{hop_lt, one_from_pos, mark_elsewhere, hop_here, hop_elsewhere, longer, place_before, queued_new}
 
 -- a marked node is another than one without a mark
 other : (marks : List ℕ) (u v : ℕ) → get_or marks u 0 ≡ 0 → 0 < get_or marks v 0 → v ≡ u → ⊥
@@ -42,55 +42,51 @@ module _ {g : Digraph} {before after : List ℕ} (spread : Spread g before after
       still v node some (a, arc, opens, enters, from_node, marked, hop) =
           (a, arc, opens, enters, from_node, wider.stays (g.from a) from_node (omega arith), omega (arith, hop, two.same v node some, two.same (g.from a) from_node (omega arith)))
 
-module _ {g : Digraph} {marks queue hops : List ℕ} {tail : ℕ} where
-  pub grown_none : Queued g.nodes marks queue hops tail → Grown g marks queue hops tail marks queue hops tail
-  grown_none queued = record {
-    queued = queued;
-    spread = record { stays = one_from_pos queued; reached = λ v node some. begin (node, some); kept = λ k past. refl };
-    paced = record { same = λ v node some. refl; entered = λ v node none some. elim (other marks v v none some refl) [ ]; kept = λ k past. refl };
-    longer = omega arith;
-    front = λ q h. refl;
+pub grown_none : {g : Digraph} {front : Front} → Queued g.nodes front → Grown g front front
+grown_none {front = front} queued = record {
+  queued = queued;
+  spread = record { stays = one_from_pos queued; reached = λ v node some. begin (node, some); kept = λ k past. refl };
+  paced = record { same = λ v node some. refl; entered = λ v node none some. elim (other front.marks.now v v none some refl) [ ]; kept = λ k past. refl };
+  longer = omega arith;
+  front = λ q h. refl;
+}
+
+-- node u without a mark, which the open arc a enters from a marked node, has one hop more than that
+module _ {g : Digraph} {u d : ℕ} {front front' : Front} (done : Enqueued u d front front') (queued : Queued g.nodes front) (a : ℕ) (arc : a < g.arcs) (opens : g.opens a ≡ true) (origin : Found g front.marks.now (g.from a)) (enters : g.to a ≡ u) (node : u < g.nodes) (clear : get_or front.marks.now u 0 ≡ 0) (hop : d ≡ get_or front.hops.now (g.from a) 0 + 1) where
+  spread_one : Spread g front.marks.now front'.marks.now
+  spread_one = record {
+    stays = λ v h some. mark_elsewhere done v (other front.marks.now u v clear some) ∙ one_from_pos queued v h some;
+    reached = λ v h some. elim (cases_eq v u) [ inl e ↦ rw e (along a arc opens enters (begin (origin.0, omega (arith, origin.1)))) | inr ne ↦ begin (h, rw (mark_elsewhere done v ne) at some) ];
+    kept = λ k past. mark_elsewhere done k (λ e. omega arith);
   }
 
-  -- node u without a mark, which the open arc a enters from a marked node
-  module _ (queued : Queued g.nodes marks queue hops tail) (a : ℕ) (arc : a < g.arcs) (opens : g.opens a ≡ true) (origin : Found g marks (g.from a)) (u : ℕ) (enters : g.to a ≡ u) (node : u < g.nodes) (clear : get_or marks u 0 ≡ 0) where
-    spread_one : Spread g marks (set marks u 1)
-    spread_one = record {
-      stays = λ v h some. get_or-set_other marks u v 1 0 (other marks u v clear some) ∙ one_from_pos queued v h some;
-      reached = λ v h some. elim (cases_eq v u) [ inl e ↦ rw e (along a arc opens enters (begin (origin.0, omega (arith, origin.1)))) | inr ne ↦ begin (h, rw (get_or-set_other marks u v 1 0 ne) at some) ];
-      kept = λ k past. get_or-set_other marks u k 1 0 (λ e. omega arith);
-    }
-
-    paced_one : u < length hops → Paced g marks hops (set marks u 1) (set hops u (get_or hops (g.from a) 0 + 1))
-    paced_one long = record {
-      same = λ v h some. elsewhere v (other marks u v clear some);
-      entered = λ v h none some. elim (cases_eq v u) [ inl e ↦ rw e entered | inr ne ↦ elim (other marks v v none (rw (get_or-set_other marks u v 1 0 ne) at some) refl) [ ] ];
-      kept = λ k past. elsewhere k (λ e. omega arith);
-    }
-      where
-        elsewhere : (v : ℕ) → (v ≡ u → ⊥) → get_or (set hops u (get_or hops (g.from a) 0 + 1)) v 0 ≡ get_or hops v 0
-        elsewhere v ne = get_or-set_other hops u v (get_or hops (g.from a) 0 + 1) 0 ne
-
-        from_other : g.from a ≡ u → ⊥
-        from_other = other marks u (g.from a) clear (omega (arith, origin.1))
-
-        entered : Entered g (set marks u 1) (set hops u (get_or hops (g.from a) 0 + 1)) u
-        entered = (a, arc, opens, enters, origin.0, get_or-set_other marks u (g.from a) 1 0 from_other ∙ origin.1, omega (arith, get_or-set_same hops u (get_or hops (g.from a) 0 + 1) 0 long, elsewhere (g.from a) from_other))
-
-    pub grown_one : g.nodes ≤ length marks → g.nodes ≤ length queue → g.nodes ≤ length hops → Grown g marks queue hops tail (set marks u 1) (set queue tail u) (set hops u (get_or hops (g.from a) 0 + 1)) (tail + 1)
-    grown_one long room hops_long = record {
-      queued = queued_new queued u (get_or hops (g.from a) 0 + 1) node clear (omega (arith, hop_lt queued (g.from a) origin.0 origin.1)) (omega arith) (omega (arith, tail_lt queued u node clear)) (omega arith);
-      spread = spread_one;
-      paced = paced_one (omega arith);
-      longer = omega arith;
-      front = λ q h. get_or-set_other queue tail q u 0 (λ e. omega arith);
-    }
-
-  pub grown_trans : {marks₁ queue₁ hops₁ marks₂ queue₂ hops₂ : List ℕ} {tail₁ tail₂ : ℕ} → Grown g marks queue hops tail marks₁ queue₁ hops₁ tail₁ → Grown g marks₁ queue₁ hops₁ tail₁ marks₂ queue₂ hops₂ tail₂ → Grown g marks queue hops tail marks₂ queue₂ hops₂ tail₂
-  grown_trans one two = record {
-    queued = two.queued;
-    spread = spread_trans one.spread two.spread;
-    paced = paced_trans one.spread one.paced two.spread two.paced;
-    longer = omega (arith, one.longer, two.longer);
-    front = λ q h. two.front q (omega (arith, one.longer)) ∙ one.front q h;
+  paced_one : u < length front.hops.now → Paced g front.marks.now front.hops.now front'.marks.now front'.hops.now
+  paced_one long = record {
+    same = λ v h some. hop_elsewhere done v (other front.marks.now u v clear some);
+    entered = λ v h none some. elim (cases_eq v u) [ inl e ↦ rw e entered | inr ne ↦ elim (other front.marks.now v v none (rw (mark_elsewhere done v ne) at some) refl) [ ] ];
+    kept = λ k past. hop_elsewhere done k (λ e. omega arith);
   }
+    where
+      from_other : g.from a ≡ u → ⊥
+      from_other = other front.marks.now u (g.from a) clear (omega (arith, origin.1))
+
+      entered : Entered g front'.marks.now front'.hops.now u
+      entered = (a, arc, opens, enters, origin.0, mark_elsewhere done (g.from a) from_other ∙ origin.1, omega (arith, hop, hop_here done long, hop_elsewhere done (g.from a) from_other))
+
+  pub grown_one : u < length front.marks.now → u < length front.hops.now → Grown g front front'
+  grown_one long hops_long = record {
+    queued = queued_new done queued node clear (omega (arith, hop, hop_lt queued (g.from a) origin.0 origin.1)) long hops_long;
+    spread = spread_one;
+    paced = paced_one hops_long;
+    longer = omega (arith, longer done);
+    front = place_before done;
+  }
+
+pub grown_trans : {g : Digraph} {a b c : Front} → Grown g a b → Grown g b c → Grown g a c
+grown_trans one two = record {
+  queued = two.queued;
+  spread = spread_trans one.spread two.spread;
+  paced = paced_trans one.spread one.paced two.spread two.paced;
+  longer = omega (arith, one.longer, two.longer);
+  front = λ q h. two.front q (omega (arith, one.longer)) ∙ one.front q h;
+}

@@ -1,18 +1,26 @@
--- The loop that queues the starts: each turn goes past one node, with a mark or without.
-use Rattle.std.proofs.Common.{◌≡◌, ℕ, ◌+◌, ◌<◌, List, length, get_or, set, refl, ◌∙◌, inl, inr, arith}
-use Rattle.std.proofs.lemmas.List.{get_or-set_same, get_or-set_other}
+-- The loop over the nodes that queues each with a nonzero mark.
+use Rattle.std.proofs.Common.{◌≡◌, ℕ, ◌+◌, ◌<◌, [], length, get_or, refl, ◌∙◌, inl, inr, arith}
 use Rattle.std.proofs.lemmas.Bool.{cases_eq}
-use Rattle.graph.specs.Frontier.{Queued, Started}
-use Rattle.graph.proofs.Queueing.{queued_none, queued_skip, queued_start}
+use Rattle.graph.specs.declared.reach.Front.{Front}
+use Rattle.graph.specs.Frontier.{SameRows, Queued, Enqueued, Started}
+use Rattle.graph.proofs.Queueing.{queued_none, queued_skip, queued_start, mark_here, mark_elsewhere, hop_here, hop_elsewhere}
 
 -- the loop's invariant: the nodes below n are started and queued
-pub record Starting (before hops₀ : List ℕ) (n : ℕ) (marks queue hops : List ℕ) (tail : ℕ) : Type 0 where
-  pub queued : Queued n marks queue hops tail
-  pub started : Started n before hops₀ marks hops
+pub record Starting (before : Front) (n : ℕ) (front : Front) : Type 0 where
+  pub same : SameRows before front
+  pub queued : Queued n front
+  pub started : Started n before front
 
-pub starting_none : (marks queue hops : List ℕ) → Starting marks hops 0 marks queue hops 0
-starting_none marks queue hops = record {
-  queued = queued_none marks queue hops;
+pub same_rows : (front : Front) → SameRows front front
+same_rows front = record { marks = refl; hops = refl; marks_long = refl; hops_long = refl }
+
+pub same_rows_trans : {a b c : Front} → SameRows a b → SameRows b c → SameRows a c
+same_rows_trans one two = record { marks = two.marks ∙ one.marks; hops = two.hops ∙ one.hops; marks_long = two.marks_long ∙ one.marks_long; hops_long = two.hops_long ∙ one.hops_long }
+
+pub starting_none : (front : Front) → front.queue ≡ [] → Starting front 0 front
+starting_none front empty = record {
+  same = same_rows front;
+  queued = queued_none front empty;
   started = record {
     raised = λ v h. elim (none v h) [ ];
     clear = λ v h. elim (none v h) [ ];
@@ -25,13 +33,14 @@ starting_none marks queue hops = record {
     none : (v : ℕ) → v < 0 → ⊥
     none v h = omega arith
 
-module _ {before hops₀ marks queue hops : List ℕ} {n tail : ℕ} (old : Starting before hops₀ n marks queue hops tail) where
+module _ {before front : Front} {n : ℕ} (old : Starting before n front) where
   -- the mark at the bound is as it was
-  same : get_or marks n 0 ≡ get_or before n 0
+  same : get_or front.marks.now n 0 ≡ get_or before.marks.now n 0
   same = old.started.kept n (omega arith)
 
-  pub starting_skip : get_or marks n 0 ≡ 0 → Starting before hops₀ (n + 1) marks queue hops tail
+  pub starting_skip : get_or front.marks.now n 0 ≡ 0 → Starting before (n + 1) front
   starting_skip clear = record {
+    same = old.same;
     queued = queued_skip old.queued clear;
     started = record {
       raised = λ v h some. elim (cases_eq v n) [ inl e ↦ omega (arith, same, clear, rw e at some) | inr ne ↦ old.started.raised v (omega arith) some ];
@@ -42,17 +51,15 @@ module _ {before hops₀ marks queue hops : List ℕ} {n tail : ℕ} (old : Star
     };
   }
 
-  pub starting_more : 0 < get_or marks n 0 → n < length marks → tail < length queue → n < length hops → Starting before hops₀ (n + 1) (set marks n 1) (set queue tail n) (set hops n 0) (tail + 1)
-  starting_more some long room hops_long = record {
-    queued = queued_start old.queued long room hops_long;
+  pub starting_more : {front' : Front} → SameRows front front' → Enqueued n 0 front front' → 0 < get_or front.marks.now n 0 → n < length front.marks.now → n < length front.hops.now → Starting before (n + 1) front'
+  starting_more same_rows done some long hops_long = record {
+    same = same_rows_trans old.same same_rows;
+    queued = queued_start done old.queued long hops_long;
     started = record {
-      raised = λ v h was. elim (cases_eq v n) [ inl e ↦ rw e (get_or-set_same marks n 1 0 long) | inr ne ↦ elsewhere v ne ∙ old.started.raised v (omega arith) was ];
-      clear = λ v h none. elim (cases_eq v n) [ inl e ↦ omega (arith, same, some, rw e at none) | inr ne ↦ elsewhere v ne ∙ old.started.clear v (omega arith) none ];
-      kept = λ k h. elsewhere k (λ e. omega arith) ∙ old.started.kept k (omega arith);
-      hop = λ v h was. elim (cases_eq v n) [ inl e ↦ rw e (get_or-set_same hops n 0 0 hops_long) | inr ne ↦ get_or-set_other hops n v 0 0 ne ∙ old.started.hop v (omega arith) was ];
-      hops_kept = λ k h. get_or-set_other hops n k 0 0 (λ e. omega arith) ∙ old.started.hops_kept k (omega arith);
+      raised = λ v h was. elim (cases_eq v n) [ inl e ↦ rw e (mark_here done long) | inr ne ↦ mark_elsewhere done v ne ∙ old.started.raised v (omega arith) was ];
+      clear = λ v h none. elim (cases_eq v n) [ inl e ↦ omega (arith, same, some, rw e at none) | inr ne ↦ mark_elsewhere done v ne ∙ old.started.clear v (omega arith) none ];
+      kept = λ k h. mark_elsewhere done k (λ e. omega arith) ∙ old.started.kept k (omega arith);
+      hop = λ v h was. elim (cases_eq v n) [ inl e ↦ rw e (hop_here done hops_long) | inr ne ↦ hop_elsewhere done v ne ∙ old.started.hop v (omega arith) was ];
+      hops_kept = λ k h. hop_elsewhere done k (λ e. omega arith) ∙ old.started.hops_kept k (omega arith);
     };
   }
-    where
-      elsewhere : (v : ℕ) → (v ≡ n → ⊥) → get_or (set marks n 1) v 0 ≡ get_or marks v 0
-      elsewhere v ne = get_or-set_other marks n v 1 0 ne

@@ -1,97 +1,132 @@
 -- The two loops of the search: along the chain of the arcs that leave one node, and over the nodes of the queue.
-use Rattle.std.proofs.Common.{◌≡◌, ℕ, ◌+◌, ◌-◌, ◌<◌, ◌≤◌, Bool, true, false, ◌⊎◌, List, length, get_or, set, sym, ◌∙◌, subst, inl, inr, arith}
-use Rattle.std.proofs.lemmas.List.{get_or-set_same}
+use Rattle.std.proofs.Common.{◌≡◌, ℕ, ◌+◌, ◌<◌, ◌≤◌, Bool, true, false, ◌⊎◌, Option, Some, None, IfSome, length, get_or, sym, ◌∙◌, subst, inl, inr, arith}
 use Rattle.std.proofs.lemmas.Bool.{both_ways, cases_eq}
+use Rattle.graph.specs.declared.reach.Front.{Front}
 use Rattle.graph.specs.Digraph.{Digraph, Arc}
 use Rattle.graph.specs.Chains.{Last}
-use Rattle.graph.specs.Frontier.{Queued, Grown, Found, Left, Closed}
-use Rattle.graph.proofs.Queueing.{one_from_pos}
+use Rattle.graph.specs.Frontier.{Room, SameRows, Queued, Enqueued, Grown, Found, Left, Closed}
+use Rattle.graph.proofs.Queueing.{queue_lt, one_from_pos, mark_here}
+use Rattle.graph.proofs.Starts.{same_rows, same_rows_trans}
 use Rattle.graph.proofs.Growth.{found_stays, grown_none, grown_one, grown_trans}
 
+-- the arcs that a chain still holds are below this
+abbrev pub bound : Option ℕ → ℕ
+bound None = 0
+bound (Some k) = k + 1
+
+last_leaves : (g : Digraph) (v m : ℕ) (link : Option ℕ) → Last g v m link → IfSome link (λ k. (k < m) × (g.from k ≡ v))
+last_leaves g v m None last = tt
+last_leaves g v m (Some k) last = (last.0, last.1)
+
+last_bound : (g : Digraph) (v m : ℕ) (link : Option ℕ) → Last g v m link → (a : ℕ) → a < m → g.from a ≡ v → a < bound link
+last_bound g v m None last a h leaves = elim (last a h leaves) [ ]
+last_bound g v m (Some k) last a h leaves = omega (arith, last.2 a h leaves)
+
+-- links fall along a chain
+pub bound_falls : (g : Digraph) (v m : ℕ) (link : Option ℕ) → Last g v m link → bound link ≤ m
+bound_falls g v m None last = omega arith
+bound_falls g v m (Some k) last = omega (arith, last.0)
+
 -- the walk along the chain of v: each open arc that leaves v is still to come, or enters a node with the mark 1
-pub record Walking (g : Digraph) (v link : ℕ) (marks₀ queue₀ hops₀ : List ℕ) (tail₀ : ℕ) (marks queue hops : List ℕ) (tail : ℕ) : Type 0 where
-  pub grown : Grown g marks₀ queue₀ hops₀ tail₀ marks queue hops tail
-  pub leaves : 0 < link → (link ≤ g.arcs) × (g.from (link - 1) ≡ v)
-  pub passed : (a : ℕ) → a < g.arcs → g.from a ≡ v → g.opens a ≡ true → (a < link) ⊎ Found g marks (g.to a)
+pub record Walking (g : Digraph) (v : ℕ) (link : Option ℕ) (first front : Front) : Type 0 where
+  pub same : SameRows first front
+  pub grown : Grown g first front
+  pub leaves : IfSome link (λ k. (k < g.arcs) × (g.from k ≡ v))
+  pub passed : (a : ℕ) → a < g.arcs → g.from a ≡ v → g.opens a ≡ true → (a < bound link) ⊎ Found g front.marks.now (g.to a)
 
-module _ {g : Digraph} {v link : ℕ} {marks₀ queue₀ hops₀ : List ℕ} {tail₀ : ℕ} where
-  pub walking_first : Queued g.nodes marks₀ queue₀ hops₀ tail₀ → Last g v g.arcs link → Walking g v link marks₀ queue₀ hops₀ tail₀ marks₀ queue₀ hops₀ tail₀
-  walking_first queued last = record {
-    grown = grown_none queued;
-    leaves = last.leaves;
-    passed = λ a arc leaves opens. inl (last.none_after a arc leaves);
-  }
+pub walking_first : {g : Digraph} {v : ℕ} {link : Option ℕ} {front : Front} → Queued g.nodes front → Last g v g.arcs link → Walking g v link front front
+walking_first {g} {v} {link} {front} queued last = record {
+  same = same_rows front;
+  grown = grown_none queued;
+  leaves = last_leaves g v g.arcs link last;
+  passed = λ a arc leaves opens. inl (last_bound g v g.arcs link last a arc leaves);
+}
 
-  module _ {marks queue hops : List ℕ} {tail : ℕ} (old : Walking g v link marks₀ queue₀ hops₀ tail₀ marks queue hops tail) where
-    -- past the arc before link, which if open now enters a node with the mark 1
-    walking_next : {marks' queue' hops' : List ℕ} {tail' : ℕ} (next : ℕ) → 0 < link → Grown g marks queue hops tail marks' queue' hops' tail' → (g.opens (link - 1) ≡ true → Found g marks' (g.to (link - 1))) → Last g (g.from (link - 1)) (link - 1) next → Walking g v next marks₀ queue₀ hops₀ tail₀ marks' queue' hops' tail'
-    walking_next {marks'} next some more here last = record {
+pub walking_end : {g : Digraph} {v : ℕ} {first front : Front} → Walking g v None first front → Left g front.marks.now v
+walking_end old a arc leaves opens = elim (old.passed a arc leaves opens) [ inl before ↦ elim (none a before) [ ] | inr found ↦ found ]
+  where
+    none : (a : ℕ) → a < 0 → ⊥
+    none a h = omega arith
+
+-- past arc k, which runs from u to w and is open where o is true
+module _ {g : Digraph} {v k : ℕ} {first front : Front} (old : Walking g v (Some k) first front) {u w : ℕ} {o : Bool} (arc : Arc g k u w o) where
+  pub mark_fits : Room g.nodes first → w < length front.marks.now
+  mark_fits room = omega (arith, arc.to_node, old.same.marks_long, room.marks_long)
+
+  pub hop_fits : Room g.nodes first → w < length front.hops.now
+  hop_fits room = omega (arith, arc.to_node, old.same.hops_long, room.hops_long)
+
+  pub node_fits : Room g.nodes first → get_or front.marks.now w 0 ≡ 0 → length front.queue < 8192
+  node_fits room clear = omega (arith, queue_lt old.grown.queued w arc.to_node clear, room.few)
+
+  -- next is the link behind arc k
+  module _ (next : Option ℕ) (last : Last g (g.from k) k next) where
+    walking_next : {front' : Front} → SameRows front front' → Grown g front front' → (g.opens k ≡ true → Found g front'.marks.now (g.to k)) → Walking g v next first front'
+    walking_next {front'} rows more here = record {
+      same = same_rows_trans old.same rows;
       grown = grown_trans old.grown more;
-      leaves = λ on. (omega (arith, (last.leaves on).0, (old.leaves some).0), (last.leaves on).1 ∙ (old.leaves some).1);
+      leaves = leaves next last;
       passed = λ a arc leaves opens.
           elim (old.passed a arc leaves opens) [
-            | inl before ↦ step a leaves opens before (cases_eq a (link - 1))
+            | inl before ↦ step a leaves opens before (cases_eq a k)
             | inr found ↦ inr (found_stays more.spread (g.to a) found)
           ];
     }
       where
-        step : (a : ℕ) → g.from a ≡ v → g.opens a ≡ true → a < link → (a ≡ link - 1) ⊎ (a ≡ link - 1 → ⊥) → (a < next) ⊎ Found g marks' (g.to a)
+        leaves : (link : Option ℕ) → Last g (g.from k) k link → IfSome link (λ j. (j < g.arcs) × (g.from j ≡ v))
+        leaves None last = tt
+        leaves (Some j) last = (omega (arith, last.0, old.leaves.0), last.1 ∙ old.leaves.1)
+
+        step : (a : ℕ) → g.from a ≡ v → g.opens a ≡ true → a < k + 1 → (a ≡ k) ⊎ (a ≡ k → ⊥) → (a < bound next) ⊎ Found g front'.marks.now (g.to a)
         step a leaves opens before (inl e) = inr (rw e (here (rw e at opens)))
-        step a leaves opens before (inr ne) = inl (last.none_after a (omega arith) (leaves ∙ sym (old.leaves some).1))
+        step a leaves opens before (inr ne) = inl (last_bound g (g.from k) k next last a (omega arith) (leaves ∙ sym old.leaves.1))
 
-    pub walking_end : link ≤ 0 → Left g marks v
-    walking_end end a arc leaves opens = elim (old.passed a arc leaves opens) [ inl before ↦ elim (none a before) [ ] | inr found ↦ found ]
+    pub walking_shut : o ≡ false → Walking g v next first front
+    walking_shut shut = walking_next (same_rows front) (grown_none old.grown.queued) (λ opens. elim (both_ways o shut (arc.open_is ∙ opens)) [ ])
+
+    pub walking_known : (get_or front.marks.now w 0 ≡ 0 → ⊥) → Walking g v next first front
+    walking_known known = walking_next (same_rows front) (grown_none old.grown.queued) (λ opens. subst (Found g front.marks.now) arc.enters (arc.to_node, one))
       where
-        none : (a : ℕ) → a < link → ⊥
-        none a h = omega arith
+        one : get_or front.marks.now w 0 ≡ 1
+        one = one_from_pos old.grown.queued w arc.to_node (omega arith)
 
-    -- past the arc before link, which runs from u to w and is open where o is true
-    module _ {u w : ℕ} {o : Bool} (next : ℕ) (some : 0 < link) (arc : Arc g (link - 1) u w o) (last : Last g (g.from (link - 1)) (link - 1) next) where
-      pub walking_shut : o ≡ false → Walking g v next marks₀ queue₀ hops₀ tail₀ marks queue hops tail
-      walking_shut shut = walking_next next some (grown_none old.grown.queued) (λ opens. elim (both_ways o shut (arc.open_is ∙ opens)) [ ]) last
+    pub walking_found : {front' : Front} → SameRows front front' → Enqueued w (get_or first.hops.now v 0 + 1) front front' → Room g.nodes first → Found g first.marks.now v → o ≡ true → get_or front.marks.now w 0 ≡ 0 → Walking g v next first front'
+    walking_found {front'} rows done room start opened clear = walking_next rows more (λ opens. subst (Found g front'.marks.now) arc.enters (arc.to_node, mark_here done (mark_fits room)))
+      where
+        origin : Found g front.marks.now (g.from k)
+        origin = subst (Found g front.marks.now) (sym old.leaves.1) (found_stays old.grown.spread v start)
 
-      pub walking_known : (get_or marks w 0 ≡ 0 → ⊥) → Walking g v next marks₀ queue₀ hops₀ tail₀ marks queue hops tail
-      walking_known known = walking_next next some (grown_none old.grown.queued) (λ opens. subst (Found g marks) arc.enters (arc.to_node, one)) last
-        where
-          one : get_or marks w 0 ≡ 1
-          one = one_from_pos old.grown.queued w arc.to_node (omega arith)
+        hop : get_or first.hops.now v 0 + 1 ≡ get_or front.hops.now (g.from k) 0 + 1
+        hop = rw old.leaves.1 (omega (arith, old.grown.paced.same v start.0 (omega (arith, start.1))))
 
-      pub walking_found : Found g marks₀ v → g.nodes ≤ length marks → g.nodes ≤ length queue → g.nodes ≤ length hops → o ≡ true → get_or marks w 0 ≡ 0 → Walking g v next marks₀ queue₀ hops₀ tail₀ (set marks w 1) (set queue tail w) (set hops w (get_or hops v 0 + 1)) (tail + 1)
-      walking_found start long room hops_long opened clear = walking_next next some (rw (old.leaves some).1 at more) (λ opens. subst (Found g (set marks w 1)) arc.enters (arc.to_node, one)) last
-        where
-          one : get_or (set marks w 1) w 0 ≡ 1
-          one = get_or-set_same marks w 1 0 (omega (arith, arc.to_node))
-
-          origin : Found g marks (g.from (link - 1))
-          origin = subst (Found g marks) (sym (old.leaves some).1) (found_stays old.grown.spread v start)
-
-          more : Grown g marks queue hops tail (set marks w 1) (set queue tail w) (set hops w (get_or hops (g.from (link - 1)) 0 + 1)) (tail + 1)
-          more = grown_one old.grown.queued (link - 1) (omega (arith, (old.leaves some).0)) (sym arc.open_is ∙ opened) origin w (sym arc.enters) arc.to_node clear long room hops_long
+        more : Grown g front front'
+        more = grown_one done old.grown.queued k old.leaves.0 (sym arc.open_is ∙ opened) origin (sym arc.enters) arc.to_node clear hop (mark_fits room) (hop_fits room)
 
 -- the walk over the queue: the nodes before head are visited
-pub record Visiting (g : Digraph) (marks₀ queue₀ hops₀ : List ℕ) (tail₀ : ℕ) (marks queue hops : List ℕ) (head tail : ℕ) : Type 0 where
-  pub grown : Grown g marks₀ queue₀ hops₀ tail₀ marks queue hops tail
-  pub visited : (q : ℕ) → q < head → Left g marks (get_or queue q 0)
+pub record Visiting (g : Digraph) (first front : Front) (head : ℕ) : Type 0 where
+  pub same : SameRows first front
+  pub grown : Grown g first front
+  pub visited : (q : ℕ) → q < head → Left g front.marks.now (get_or front.queue q 0)
 
-module _ {g : Digraph} {marks₀ queue₀ hops₀ : List ℕ} {tail₀ : ℕ} where
-  pub visiting_first : Queued g.nodes marks₀ queue₀ hops₀ tail₀ → Visiting g marks₀ queue₀ hops₀ tail₀ marks₀ queue₀ hops₀ 0 tail₀
-  visiting_first queued = record { grown = grown_none queued; visited = λ q h. elim (none q h) [ ] }
+pub visiting_first : {g : Digraph} {front : Front} → Queued g.nodes front → Visiting g front front 0
+visiting_first {front = front} queued = record { same = same_rows front; grown = grown_none queued; visited = λ q h. elim (none q h) [ ] }
+  where
+    none : (q : ℕ) → q < 0 → ⊥
+    none q h = omega arith
+
+module _ {g : Digraph} {first front : Front} {head : ℕ} (old : Visiting g first front head) where
+  pub visiting_next : {front' : Front} → head < length front.queue → SameRows front front' → Grown g front front' → Left g front'.marks.now (get_or front.queue head 0) → Visiting g first front' (head + 1)
+  visiting_next {front'} queued rows more left = record {
+    same = same_rows_trans old.same rows;
+    grown = grown_trans old.grown more;
+    visited = λ q h. subst (Left g front'.marks.now) (sym (more.front q (omega arith))) (still q h (cases_eq q head));
+  }
     where
-      none : (q : ℕ) → q < 0 → ⊥
-      none q h = omega arith
+      still : (q : ℕ) → q < head + 1 → (q ≡ head) ⊎ (q ≡ head → ⊥) → Left g front'.marks.now (get_or front.queue q 0)
+      still q h (inl e) = rw e left
+      still q h (inr ne) = λ a arc leaves opens. found_stays more.spread (g.to a) (old.visited q (omega arith) a arc leaves opens)
 
-  module _ {marks queue hops : List ℕ} {head tail : ℕ} (old : Visiting g marks₀ queue₀ hops₀ tail₀ marks queue hops head tail) where
-    pub visiting_next : {marks' queue' hops' : List ℕ} {tail' : ℕ} → head < tail → Grown g marks queue hops tail marks' queue' hops' tail' → Left g marks' (get_or queue head 0) → Visiting g marks₀ queue₀ hops₀ tail₀ marks' queue' hops' (head + 1) tail'
-    visiting_next {marks'} {queue'} queued more left = record {
-      grown = grown_trans old.grown more;
-      visited = λ q h. subst (Left g marks') (sym (more.front q (omega arith))) (still q h (cases_eq q head));
-    }
-      where
-        still : (q : ℕ) → q < head + 1 → (q ≡ head) ⊎ (q ≡ head → ⊥) → Left g marks' (get_or queue q 0)
-        still q h (inl e) = rw e left
-        still q h (inr ne) = λ a arc leaves opens. found_stays more.spread (g.to a) (old.visited q (omega arith) a arc leaves opens)
-
-    pub visiting_end : tail ≤ head → Closed g marks
-    visiting_end end v found =
-        let p = old.grown.queued.place v found.0 found.1 in
-        subst (Left g marks) p.2 (old.visited p.0 (omega (arith, p.1)))
+  pub visiting_end : length front.queue ≤ head → Closed g front.marks.now
+  visiting_end end v found =
+      let p = old.grown.queued.place v found.0 found.1 in
+      subst (Left g front.marks.now) p.2 (old.visited p.0 (omega (arith, p.1)))

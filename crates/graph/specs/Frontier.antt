@@ -1,35 +1,46 @@
 -- The marked nodes, the queue that holds them and their hops, while the search goes on.
-use Rattle.std.specs.Prelude.{◌≡◌, ℕ, ◌<◌, ◌≤◌, true, List, length, slice_index}
+use Rattle.std.specs.Prelude.{◌≡◌, ℕ, ◌<◌, ◌≤◌, true, List, [], ◌∷◌, ◌++◌, length, slice_index, slice_set}
+use Rattle.graph.specs.declared.reach.Front.{Front}
 use Rattle.graph.specs.Digraph.{Digraph}
 use Rattle.graph.specs.Reach.{Reached, Marked}
 use Rattle.graph.specs.Sums.{total}
 use Rattle.graph.specs.Trace.{Entered}
 
--- the rows are long enough for g, whose nodes are few enough that a place of the queue holds each
-pub record Room (g : Digraph) (first next marks queue hops : List ℕ) : Type 0 where
-  pub few : g.nodes ≤ 8192
-  pub first_long : g.nodes ≤ length first
-  pub next_long : g.arcs ≤ length next
-  pub marks_long : g.nodes ≤ length marks
-  pub queue_long : g.nodes ≤ length queue
-  pub hops_long : g.nodes ≤ length hops
+-- the rows have a place for each of n nodes, and the queue has too
+pub record Room (n : ℕ) (front : Front) : Type 0 where
+  pub few : n ≤ 8192
+  pub marks_long : n ≤ length front.marks.now
+  pub hops_long : n ≤ length front.hops.now
 
--- the first tail places of the queue hold the marked nodes below n, each of them once; no hop passes its node's place
-pub record Queued (n : ℕ) (marks queue hops : List ℕ) (tail : ℕ) : Type 0 where
-  pub bits : (v : ℕ) → v < n → slice_index marks v ≤ 1
-  pub counted : tail ≡ total (λ v. slice_index marks v) n
-  pub node : (q : ℕ) → q < tail → slice_index queue q < n
-  pub marked : (q : ℕ) → q < tail → slice_index marks (slice_index queue q) ≡ 1
-  pub place : (v : ℕ) → v < n → slice_index marks v ≡ 1 → (q : ℕ) × (q < tail) × (slice_index queue q ≡ v)
-  pub near : (q : ℕ) → q < tail → slice_index hops (slice_index queue q) ≤ q
+-- the rows are the same two, as long as they were
+pub record SameRows (front front' : Front) : Type 0 where
+  pub marks : front'.marks.ghost_name ≡ front.marks.ghost_name
+  pub hops : front'.hops.ghost_name ≡ front.hops.ghost_name
+  pub marks_long : length front'.marks.now ≡ length front.marks.now
+  pub hops_long : length front'.hops.now ≡ length front.hops.now
+
+-- the queue holds the marked nodes below n, each of them once; no hop passes its node's place
+pub record Queued (n : ℕ) (front : Front) : Type 0 where
+  pub bits : (v : ℕ) → v < n → slice_index front.marks.now v ≤ 1
+  pub counted : length front.queue ≡ total (λ v. slice_index front.marks.now v) n
+  pub node : (q : ℕ) → q < length front.queue → slice_index front.queue q < n
+  pub marked : (q : ℕ) → q < length front.queue → slice_index front.marks.now (slice_index front.queue q) ≡ 1
+  pub place : (v : ℕ) → v < n → slice_index front.marks.now v ≡ 1 → (q : ℕ) × (q < length front.queue) × (slice_index front.queue q ≡ v)
+  pub near : (q : ℕ) → q < length front.queue → slice_index front.hops.now (slice_index front.queue q) ≤ q
+
+-- node v is marked, stands at the end of the queue and has the hop d, and nothing else has changed
+pub record Enqueued (v d : ℕ) (front front' : Front) : Type 0 where
+  pub marks : front'.marks.now ≡ slice_set front.marks.now v 1
+  pub hops : front'.hops.now ≡ slice_set front.hops.now v d
+  pub queue : front'.queue ≡ front.queue ++ v ∷ []
 
 -- of the first n marks each nonzero one is 1 afterwards, with the hop 0; other marks and the hops from n on are kept
-pub record Started (n : ℕ) (before hops after hops' : List ℕ) : Type 0 where
-  pub raised : (v : ℕ) → v < n → 0 < slice_index before v → slice_index after v ≡ 1
-  pub clear : (v : ℕ) → v < n → slice_index before v ≡ 0 → slice_index after v ≡ 0
-  pub kept : (k : ℕ) → n ≤ k → slice_index after k ≡ slice_index before k
-  pub hop : (v : ℕ) → v < n → 0 < slice_index before v → slice_index hops' v ≡ 0
-  pub hops_kept : (k : ℕ) → n ≤ k → slice_index hops' k ≡ slice_index hops k
+pub record Started (n : ℕ) (before after : Front) : Type 0 where
+  pub raised : (v : ℕ) → v < n → 0 < slice_index before.marks.now v → slice_index after.marks.now v ≡ 1
+  pub clear : (v : ℕ) → v < n → slice_index before.marks.now v ≡ 0 → slice_index after.marks.now v ≡ 0
+  pub kept : (k : ℕ) → n ≤ k → slice_index after.marks.now k ≡ slice_index before.marks.now k
+  pub hop : (v : ℕ) → v < n → 0 < slice_index before.marks.now v → slice_index after.hops.now v ≡ 0
+  pub hops_kept : (k : ℕ) → n ≤ k → slice_index after.hops.now k ≡ slice_index before.hops.now k
 
 -- marked nodes stay so, and open arcs lead from them to each that is marked afterwards
 pub record Spread (g : Digraph) (before after : List ℕ) : Type 0 where
@@ -44,12 +55,12 @@ pub record Paced (g : Digraph) (before hops after hops' : List ℕ) : Type 0 whe
   pub kept : (k : ℕ) → g.nodes ≤ k → slice_index hops' k ≡ slice_index hops k
 
 -- more nodes are marked, with their hops, and the queue holds them behind those before
-pub record Grown (g : Digraph) (marks queue hops : List ℕ) (tail : ℕ) (marks' queue' hops' : List ℕ) (tail' : ℕ) : Type 0 where
-  pub queued : Queued g.nodes marks' queue' hops' tail'
-  pub spread : Spread g marks marks'
-  pub paced : Paced g marks hops marks' hops'
-  pub longer : tail ≤ tail'
-  pub front : (q : ℕ) → q < tail → slice_index queue' q ≡ slice_index queue q
+pub record Grown (g : Digraph) (before after : Front) : Type 0 where
+  pub queued : Queued g.nodes after
+  pub spread : Spread g before.marks.now after.marks.now
+  pub paced : Paced g before.marks.now before.hops.now after.marks.now after.hops.now
+  pub longer : length before.queue ≤ length after.queue
+  pub front : (q : ℕ) → q < length before.queue → slice_index after.queue q ≡ slice_index before.queue q
 
 -- v is a node and has the mark 1
 abbrev pub Found : Digraph → List ℕ → ℕ → Type 0

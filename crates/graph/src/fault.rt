@@ -2,19 +2,23 @@
 ghost use Rattle.std.specs.Prelude.{◌≡◌};
 ghost use Rattle.graph.specs.Refusals.{refusal};
 
+use refusal::Refusal;
+
 #[derive(Clone, Copy, PartialEq, Eq, Debug)]
 pub enum SearchFault {
     // A row is shorter than the graph has nodes.
     ShortRow,
 }
 
-impl SearchFault {
-    // The number and the place under which the fault is reported.
-    pub fn told(self) -> (u16, usize)
-        ensures { result ≡ refusal self }
-    {
-        match self {
-            SearchFault::ShortRow => (41, 0),
+impl From<SearchFault> for Refusal {
+    ghost from_gives = { λ f r. r ≡ refusal f };
+
+    fn from(fault: SearchFault) -> Refusal {
+        match fault {
+            SearchFault::ShortRow => Refusal {
+                number: 41,
+                place: 0,
+            },
         }
     }
 }

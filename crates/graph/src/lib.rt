@@ -2,5 +2,7 @@
 #![tactic(auto)]
 
 pub mod ask;
+mod chains;
 pub mod fault;
+mod queue;
 pub mod reach;

@@ -2,6 +2,8 @@
 ghost use Rattle.std.specs.Prelude.{◌≡◌};
 ghost use Rattle.layer.specs.Refusals.{refusal};
 
+use refusal::Refusal;
+
 #[derive(Clone, Copy, PartialEq, Eq, Debug)]
 pub enum LayerFault {
     // The factor is not one of 1 to 15.
@@ -10,14 +12,14 @@ pub enum LayerFault {
     CountTooLarge(usize),
 }
 
-impl LayerFault {
-    // The number and the place under which the fault is reported.
-    pub fn told(self) -> (u16, usize)
-        ensures { result ≡ refusal self }
-    {
-        match self {
+impl From<LayerFault> for Refusal {
+    ghost from_gives = { λ f r. r ≡ refusal f };
+
+    fn from(fault: LayerFault) -> Refusal {
+        let (number, place) = match fault {
             LayerFault::BadFactor => (21, 0),
             LayerFault::CountTooLarge(wire) => (22, wire),
-        }
+        };
+        Refusal { number, place }
     }
 }

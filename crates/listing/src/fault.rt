@@ -3,10 +3,11 @@ ghost use Rattle.std.specs.Prelude.{◌≡◌};
 ghost use Rattle.listing.specs.Refusals.{refusal};
 ghost use Rattle.listing.specs.declared.fault.RunFault.TheVariants.{Drawing, Memory};
 
+use refusal::Refusal;
 use std::alloc::AllocError;
 use wiring::fault::CheckFault;
 
-#[derive(Clone, Copy, Drop)]
+#[derive(Clone, Copy, PartialEq, Eq, Debug)]
 pub enum RunFault {
     // The check refused the drawing.
     Drawing(CheckFault),
@@ -15,12 +16,15 @@ pub enum RunFault {
 }
 
 impl RunFault {
-    // The number and the place under which the fault is reported; want of memory has neither.
-    pub fn told(self) -> Option<(u16, usize)>
+    // The refusal as which the fault is reported; there is none for want of memory.
+    pub fn refusal(self) -> Option<Refusal>
         ensures { result ≡ refusal self }
     {
         match self {
-            RunFault::Drawing(_) => Some((45, 0)),
+            RunFault::Drawing(_) => Some(Refusal {
+                number: 45,
+                place: 0,
+            }),
             RunFault::Memory => None,
         }
     }

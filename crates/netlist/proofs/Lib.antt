@@ -1,4 +1,5 @@
 pub mod Counting
 pub mod Greatest
 pub mod Published
+pub mod Ranges
 pub mod Tallies

@@ -1,9 +1,9 @@
 -- The tally, one wire more at a time.
-use Rattle.std.proofs.Common.{◌≡◌, ℕ, suc, ◌+◌, ◌-◌, ◌*◌, ◌<◌, ◌≤◌, max, Bool, sym, refl, ap, ◌∙◌, add-one, arith}
+use Rattle.std.proofs.Common.{◌≡◌, ℕ, zero, suc, ◌+◌, ◌-◌, ◌<◌, ◌≤◌, Bool, sym, refl, ◌∙◌, arith}
 use Rattle.std.proofs.lemmas.Bool.{ne_eqb, eq-eqb, and_left, and_right, and_from}
 use Rattle.graph.specs.Sums.{total}
 use Rattle.netlist.specs.Net.{Net}
-use Rattle.netlist.specs.Tally.{Marking, greatest, together, tally_of}
+use Rattle.netlist.specs.Tally.{Marking, greatest, together, added, tally_of}
 use Rattle.netlist.proofs.Greatest.{greatest_yes, greatest_no}
 use Rattle.graph.proofs.Totals.{total_same, total_zero, total_change}
 
@@ -58,24 +58,9 @@ module _ (n : Net) (mark : Marking) where
   unfolding tally_of tally_upto
   tally_all = refl
 
--- one turn of the scan for the greatest earlier count of a bundle: w is what the wire question answers for wire k
-module _ (n : Net) (mark : Marking) (g m k : ℕ) (w : ℕ × ℕ × ℕ) (is : w ≡ (n.driver k, n.driven k, n.count k)) where
-  pub deepest_take : (d x : ℕ) → d ≡ greatest (together n mark g m) n.count k → w.0 ≡ g → x ≡ mark w.0 w.1 k → x ≡ m → max w.2 d ≡ greatest (together n mark g m) n.count (k + 1)
-  deepest_take d x old here told same =
-      let marked : mark_of n mark k ≡ m = rw is at (sym told ∙ same) in
-      let held = greatest_yes (together n mark g m) n.count k (and_from _ _ (eq-eqb _ g (rw is at here)) (eq-eqb _ m marked)) in
-      rw add-one (omega (arith, held, old, ap (λ t. t.2) is))
-
-  pub deepest_pass_driver : (d : ℕ) → d ≡ greatest (together n mark g m) n.count k → (w.0 ≡ g → ⊥) → d ≡ greatest (together n mark g m) n.count (k + 1)
-  deepest_pass_driver d old other = rw add-one (old ∙ sym (greatest_no (together n mark g m) n.count k (and_left _ _ (ne_eqb _ g (λ e. other (ap (λ t. t.0) is ∙ e))))))
-
-  pub deepest_pass_mark : (d x : ℕ) → d ≡ greatest (together n mark g m) n.count k → x ≡ mark w.0 w.1 k → (x ≡ m → ⊥) → d ≡ greatest (together n mark g m) n.count (k + 1)
-  deepest_pass_mark d x old told other = rw add-one (old ∙ sym (greatest_no (together n mark g m) n.count k (and_right _ _ (ne_eqb _ m (λ e. other (rw is at told ∙ e))))))
-
--- one turn of the tally
-pub tally_step : (n : Net) (mark : Marking) (k sum gain covered x : ℕ) (w : ℕ × ℕ × ℕ) → w ≡ (n.driver k, n.driven k, n.count k) → n.driver k < n.gates → mark_of n mark k < 4096 → n.count k ≤ 1048575 → x ≡ mark w.0 w.1 k → covered ≡ greatest (together n mark w.0 x) n.count k → gain ≡ w.2 - covered → (sum ≡ tally_upto n mark k) × (sum ≤ 1048575 * k) → (sum + gain ≡ tally_upto n mark (k + 1)) × (sum + gain ≤ 1048575 * (k + 1))
-tally_step n mark k sum gain covered x w is d l few told cov got old =
-    let x_is : x ≡ mark_of n mark k = rw is at told in
-    let cov_is : covered ≡ before 4096 n mark k = rw (is, x_is) at cov in
-    let count_is : w.2 ≡ n.count k = ap (λ t. t.2) is in
-    (rw add-one (omega (arith, tally_more n mark k d l, cov_is, count_is, got, old.0)), omega (arith, got, count_is, few, old.1))
+  pub added_all : ((k : ℕ) → k < n.wires → n.driver k < n.gates) → ((k : ℕ) → k < n.wires → mark_of n mark k < 4096) → total (added n mark) n.wires ≡ tally_of n mark
+  added_all ends small = upto n.wires (omega arith) ∙ sym tally_all
+    where
+      upto : (k : ℕ) → k ≤ n.wires → total (added n mark) k ≡ tally_upto n mark k
+      upto zero l = sym tally_none
+      upto (suc k) l = omega (arith, upto k (omega arith), tally_more k (ends k (omega arith)) (small k (omega arith)))

@@ -1,5 +1,5 @@
 -- Bundles of wires that share registers, and the registers that a netlist needs.
-use Rattle.std.specs.Prelude.{ℕ, zero, suc, max, Bool, cond, ◌&&◌, ◌==◌}
+use Rattle.std.specs.Prelude.{ℕ, zero, suc, ◌-◌, max, Bool, cond, ◌&&◌, ◌==◌}
 use Rattle.graph.specs.Sums.{total}
 use Rattle.netlist.specs.Net.{Net}
 
@@ -15,6 +15,10 @@ greatest p f (suc k) = max (greatest p f k) (cond (p k) (f k) 0)
 -- wire k leaves gate g under mark m: the wires of one gate and one mark form a bundle
 abbrev pub together : Net → Marking → ℕ → ℕ → ℕ → Bool
 together n mark g m k = n.driver k == g && mark (n.driver k) (n.driven k) k == m
+
+-- what wire k needs beyond the earlier wires of its bundle
+abbrev pub added : Net → Marking → ℕ → ℕ
+added n mark k = n.count k - greatest (together n mark (n.driver k) (mark (n.driver k) (n.driven k) k)) n.count k
 
 -- the sum over gates, over marks below a bound, of the greatest count in the bundle
 abbrev pub tally_under : ℕ → Net → Marking → ℕ

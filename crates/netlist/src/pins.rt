@@ -7,11 +7,7 @@ use crate::ask::Netlist;
 pub fn pin_count<N: Netlist>(net: &N) -> usize
     ensures { result ≡ pins (N.meaning net.now) }
 {
-    let mut count = 0;
-    for gate in 0..net.gate_count() {
-        if net.is_pinned(gate) {
-            count += 1;
-        }
-    }
-    count
+    (0..net.gate_count())
+        .filter(|gate| net.is_pinned(*gate))
+        .count()
 }

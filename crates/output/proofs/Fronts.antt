@@ -8,35 +8,38 @@ use Rattle.wiring.specs.Check.{WiresPass}
 use Rattle.wiring.specs.Held.{wire_of}
 use Rattle.wiring.specs.Wires.{no_wire}
 use Rattle.wiring.proofs.Holding.{Sound, sound_pass, none_past}
-use Rattle.output.specs.Numbers.{Small, number_of, HoldsNumbers, KeptFrom}
+use Rattle.output.specs.Numbers.{Small, KeptFrom, HoldsSizes, PutsWires}
 use Rattle.output.specs.Written.{PinsFirst, Written}
-use Rattle.output.proofs.Numbering.{driver_number, driven_number, count_number}
 use Rattle.output.proofs.Settling.{pinned_is}
 
 word_take : (b : List ℕ) (r i : ℕ) → i + 1 < r → word (take r b) i ≡ word b i
 word_take b r i l = omega (arith, get_or-take r b i 0 (omega arith), get_or-take r b (i + 1) 0 l)
 
-module _ (n : Net) (sound : Sound n) (pins : ℕ) (ordered : PinsFirst n pins) (b : List ℕ) (room : 6 + 6 * n.wires ≤ length b) (held : HoldsNumbers n pins b) where
+module _ (n : Net) (sound : Sound n) (pins : ℕ) (ordered : PinsFirst n pins) (sized b : List ℕ) (room : 6 + 6 * n.wires ≤ length b) (sizes : HoldsSizes n pins sized) (put : PutsWires n n.wires sized b) where
   abbrev front : List ℕ
   front = take (6 + 6 * n.wires) b
 
-  number_in : (i j : ℕ) → i ≡ 2 * j → j < 3 + 3 * n.wires → word front i ≡ number_of n pins j
-  number_in i j e l = word_take b (6 + 6 * n.wires) i (omega arith) ∙ ap (word b) e ∙ held j l
+  -- a number of the front
+  number : (i : ℕ) → i + 1 < 6 + 6 * n.wires → word front i ≡ word b i
+  number i l = word_take b (6 + 6 * n.wires) i l
+
+  size : (i : ℕ) → i + 1 < 6 → word front i ≡ word sized i
+  size i l = omega (arith, number i (omega arith), put.sizes i (omega arith), put.sizes (i + 1) l)
 
   gates_are : gates_in front ≡ n.gates
-  gates_are = number_in 0 0 refl (omega arith)
+  gates_are = size 0 (omega arith) ∙ sizes.gates
 
   pins_are : pins_in front ≡ pins
-  pins_are = number_in 2 1 refl (omega arith)
+  pins_are = size 2 (omega arith) ∙ sizes.pins
 
   wires_are : wires_in front ≡ n.wires
-  wires_are = number_in 4 2 refl (omega arith)
+  wires_are = size 4 (omega arith) ∙ sizes.wires
 
   wire_is : (k : ℕ) → k < n.wires → wire_in front k ≡ wire_of n k
-  wire_is k l = λ i. record {
-    driver = (number_in (6 + 4 * k) (3 + 2 * k) (omega arith) (omega arith) ∙ driver_number n pins k l) i;
-    driven = (number_in (8 + 4 * k) (4 + 2 * k) (omega arith) (omega arith) ∙ driven_number n pins k l) i;
-    count = (number_in (6 + 4 * wires_in front + 2 * k) (3 + 2 * n.wires + k) (omega (arith, wires_are)) (omega arith) ∙ count_number n pins k) i;
+  wire_is k l = let held = put.held k l in λ i. record {
+    driver = (number (6 + 4 * k) (omega arith) ∙ held.driver) i;
+    driven = (number (8 + 4 * k) (omega arith) ∙ held.driven) i;
+    count = (ap (λ w. word front (6 + 4 * w + 2 * k)) wires_are ∙ number (6 + 4 * n.wires + 2 * k) (omega arith) ∙ held.count) i;
   }
 
   at : (k : ℕ) → wire_or_none front k ≡ wire_of n k
@@ -68,13 +71,13 @@ module _ (n : Net) (sound : Sound n) (pins : ℕ) (ordered : PinsFirst n pins) (
     pass = subst (WiresPass 255) (sym front_drawn) (sound_pass n sound 255 small);
   }
 
-  pub front_written : Small n → (before : List ℕ) → 6 + 6 * n.wires ≤ length before → KeptFrom (6 + 6 * n.wires) before b → Written n before b (6 + 6 * n.wires)
+  pub front_written : Small n → (before : List ℕ) → 6 + 6 * n.wires ≤ length before → KeptFrom 6 before sized → Written n before b (6 + 6 * n.wires)
   front_written small before room_before kept = record {
     size_is = refl;
     room = room_before;
     small = small;
     pins = subst (PinsFirst n) (sym pins_are) ordered;
-    kept = kept;
+    kept = λ i l. put.kept i l ∙ kept i (omega arith);
     accepted = front_accepted small;
     same = front_drawn;
   }

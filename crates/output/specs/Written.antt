@@ -21,6 +21,12 @@ pub record PinsFirst (n : Net) (number : ℕ) : Type 0 where
   pub first : PinnedBelow n number
   pub none_late : NoneBelow n.gates (Late n)
 
+-- so many gates are pinned before the first that is not; where all are, it is the number of gates
+pub record IsLeading (n : Net) (number : ℕ) : Type 0 where
+  pub within : number ≤ n.gates
+  pub pinned : (g : ℕ) → g < number → n.pinned g ≡ true
+  pub free : number < n.gates → n.pinned number ≡ false
+
 abbrev pub IsLatePin : Net → WriteFault → Type 0
 IsLatePin n ShortRow = ⊥
 IsLatePin n (CountTooLarge k) = ⊥

@@ -3,6 +3,7 @@ ghost use Rattle.std.specs.Prelude.{◌≡◌};
 ghost use Rattle.output.specs.declared.fault.RewriteFault.TheVariants.{Memory, Write};
 ghost use Rattle.output.specs.Refusals.{settle_refusal, write_refusal};
 
+use refusal::Refusal;
 use std::alloc::AllocError;
 
 #[derive(Clone, Copy, PartialEq, Eq, Debug)]
@@ -11,13 +12,15 @@ pub enum SettleFault {
     ShortList,
 }
 
-impl SettleFault {
-    // The number and the place under which the fault is reported.
-    pub fn told(self) -> (u16, usize)
-        ensures { result ≡ settle_refusal self }
-    {
-        match self {
-            SettleFault::ShortList => (20, 0),
+impl From<SettleFault> for Refusal {
+    ghost from_gives = { λ f r. r ≡ settle_refusal f };
+
+    fn from(fault: SettleFault) -> Refusal {
+        match fault {
+            SettleFault::ShortList => Refusal {
+                number: 20,
+                place: 0,
+            },
         }
     }
 }
@@ -32,16 +35,16 @@ pub enum WriteFault {
     LatePin(usize),
 }
 
-impl WriteFault {
-    // The number and the place under which the fault is reported.
-    pub fn told(self) -> (u16, usize)
-        ensures { result ≡ write_refusal self }
-    {
-        match self {
+impl From<WriteFault> for Refusal {
+    ghost from_gives = { λ f r. r ≡ write_refusal f };
+
+    fn from(fault: WriteFault) -> Refusal {
+        let (number, place) = match fault {
             WriteFault::ShortRow => (17, 0),
             WriteFault::CountTooLarge(wire) => (18, wire),
             WriteFault::LatePin(gate) => (19, gate),
-        }
+        };
+        Refusal { number, place }
     }
 }
 

@@ -28,9 +28,9 @@ fn retime(rt: &HostRuntime) -> anyhow::Result<bool> {
             rt.print(text)?;
             Ok(true)
         }
-        Err(fault) => match fault.told() {
-            Some((number, _)) => {
-                rt.print(refused(heap, number)?)?;
+        Err(fault) => match fault.refusal() {
+            Some(refusal) => {
+                rt.print(refused(heap, refusal.number)?)?;
                 Ok(false)
             }
             None => Err(anyhow!("out of memory")),

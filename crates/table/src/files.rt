@@ -1,5 +1,6 @@
 // Small netlists beside what writing each as a file answers and leaves in the row of bytes.
-use crate::wires::wires;
+use crate::reported::reported;
+use crate::wires::wire;
 use output::fault::{RewriteFault, WriteFault};
 use output::file::{rewrite, write};
 use std::alloc::{AllocError, Global};
@@ -9,8 +10,8 @@ use wiring::owned::Wiring;
 // Two gates with a wire each way between them, of which the first has 255 registers: which gates are pinned, and the
 // count of the second wire.
 fn pair(heap: Global, pinned: [bool; 2], count: u32) -> Result<Wiring, AllocError> {
-    let list = wires(heap, &[(0, 1, 255), (1, 0, count)])?;
-    Wiring::open(heap, pinned.to_vec(heap)?, list.as_slice())
+    let wires = [(0, 1, 255), (1, 0, count)].map(wire);
+    Wiring::open(heap, pinned.to_vec(heap)?, &wires)
 }
 
 // A row of old bytes, and the same with the file of such a pair in front.
@@ -21,33 +22,29 @@ const ONE: [u8; 19] = [2, 0, 1, 0, 2, 0, 0, 0, 1, 0, 1, 0, 0, 0, 255, 0, 1, 0, 7
 const MOST: [u8; 19] = [2, 0, 0, 0, 2, 0, 0, 0, 1, 0, 1, 0, 0, 0, 255, 0, 255, 0, 7];
 
 // Each row: which gates are pinned, the count of the second wire, how much of the row of bytes is lent, what writing
-// answers (0 and the file's length, or the number and place of the refusal), and the row afterwards.
-const ROWS: [([bool; 2], u32, usize, u16, usize, [u8; 19]); 8] = [
+// answers (the file's length, or the number and the place of the refusal), and the row afterwards.
+const ROWS: [([bool; 2], u32, usize, Result<usize, (u16, usize)>, [u8; 19]); 8] = [
     // one byte too few, just enough, and more
-    ([true, false], 1, 17, 17, 0, OLD),
-    ([true, false], 1, 18, 0, 18, ONE),
-    ([true, false], 1, 19, 0, 18, ONE),
+    ([true, false], 1, 17, Err((17, 0)), OLD),
+    ([true, false], 1, 18, Ok(18), ONE),
+    ([true, false], 1, 19, Ok(18), ONE),
     // the greatest count, and one more
-    ([false, false], 255, 19, 0, 18, MOST),
-    ([false, false], 256, 19, 18, 1, OLD),
+    ([false, false], 255, 19, Ok(18), MOST),
+    ([false, false], 256, 19, Err((18, 1)), OLD),
     // a pinned gate above one that is not
-    ([false, true], 255, 19, 19, 1, OLD),
+    ([false, true], 255, 19, Err((19, 1)), OLD),
     // the count before the pin, and the row before both
-    ([false, true], 256, 18, 18, 1, OLD),
-    ([false, true], 256, 17, 17, 0, OLD),
+    ([false, true], 256, 18, Err((18, 1)), OLD),
+    ([false, true], 256, 17, Err((17, 0)), OLD),
 ];
 
 #[test]
 fn a_file_is_written_or_the_row_is_left(rt: HostRuntime) -> Result<(), Fail> {
-    for (pinned, count, lent, number, place, after) in ROWS {
+    for (pinned, count, lent, answer, after) in ROWS {
         let net = pair(rt.alloc(), pinned, count)?;
         let mut row = OLD;
         assert!(rt; lent <= 19);
-        let answer = match write(&net, &mut row[..lent]) {
-            Ok(size) => (0, size),
-            Err(fault) => fault.told(),
-        };
-        assert_eq!(rt; answer, (number, place));
+        assert_eq!(rt; reported(write(&net, &mut row[..lent])), answer);
         assert_eq!(rt; row, after);
     }
     Ok(())

@@ -10,6 +10,8 @@ mod interleaves;
 #[cfg(test)]
 mod lists;
 #[cfg(test)]
+mod reported;
+#[cfg(test)]
 mod retimings;
 #[cfg(test)]
 mod wires;

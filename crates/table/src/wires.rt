@@ -1,16 +1,11 @@
-// Wires by driver, driven gate and count, so that a table shows each on part of a line.
-use std::alloc::{AllocError, Global};
+// A wire from its driver, driven gate and count, by which a table shows it on part of a line: a table is a constant, in
+// which no function can be called.
 use wiring::wire::Wire;
 
-pub(crate) fn wires(heap: Global, rows: &[(u16, u16, u32)]) -> Result<Vec<Wire>, AllocError> {
-    let mut list = Vec::new(heap);
-    for row in rows {
-        let (driver, driven, count) = *row;
-        list.push(Wire {
-            driver,
-            driven,
-            count,
-        })?;
+pub(crate) fn wire((driver, driven, count): (u16, u16, u32)) -> Wire {
+    Wire {
+        driver,
+        driven,
+        count,
     }
-    Ok(list)
 }

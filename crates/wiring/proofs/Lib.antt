@@ -1,6 +1,6 @@
-pub mod Filling
 pub mod Holding
 pub mod Keeping
+pub mod Lawful
 pub mod Leading
 pub mod Pinning
 pub mod Rising

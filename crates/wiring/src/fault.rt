@@ -2,6 +2,8 @@
 ghost use Rattle.std.specs.Prelude.{◌≡◌};
 ghost use Rattle.wiring.specs.Refusals.{refusal};
 
+use refusal::Refusal;
+
 // Where a case holds a number, it is the lowest wire at fault.
 #[derive(Clone, Copy, PartialEq, Eq, Debug)]
 pub enum CheckFault {
@@ -19,18 +21,18 @@ pub enum CheckFault {
     FreeRound(usize),
 }
 
-impl CheckFault {
-    // The number and the place under which the fault is reported.
-    pub fn told(self) -> (u16, usize)
-        ensures { result ≡ refusal self }
-    {
-        match self {
+impl From<CheckFault> for Refusal {
+    ghost from_gives = { λ f r. r ≡ refusal f };
+
+    fn from(fault: CheckFault) -> Refusal {
+        let (number, place) = match fault {
             CheckFault::ShortFile => (11, 0),
             CheckFault::TooLarge => (12, 0),
             CheckFault::WrongLength => (13, 0),
             CheckFault::NoGate(wire) => (14, wire),
             CheckFault::CountTooLarge(wire) => (15, wire),
             CheckFault::FreeRound(wire) => (16, wire),
-        }
+        };
+        Refusal { number, place }
     }
 }

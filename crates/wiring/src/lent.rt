@@ -5,6 +5,7 @@ ghost use Rattle.wiring.specs.Wires.{EndsWithin};
 use crate::wire::Wire;
 
 pub mod questions;
+mod rounds;
 
 #[derive(Drop)]
 pub struct Wires<'a> {

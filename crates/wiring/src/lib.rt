@@ -6,4 +6,5 @@ pub mod fault;
 pub mod lent;
 pub mod list;
 pub mod owned;
+pub mod told;
 pub mod wire;

@@ -3,6 +3,7 @@ ghost use Rattle.std.specs.Prelude.{◌≡◌};
 ghost use Rattle.wiring.specs.Wiring.{wires_graph};
 
 use crate::lent::Wires;
+use crate::wire::arc_at;
 use graph::ask::Graph;
 
 impl Graph for Wires<'_> {
@@ -17,11 +18,6 @@ impl Graph for Wires<'_> {
     }
 
     fn arc(&self, a: usize) -> (usize, usize, bool) {
-        if a < self.list.len() {
-            let wire = self.list[a];
-            (wire.driver as usize, wire.driven as usize, wire.count == 0)
-        } else {
-            (0, 0, false)
-        }
+        arc_at(self.list, a)
     }
 }

@@ -14,11 +14,7 @@ use std::alloc::{AllocError, Global};
 pub(crate) fn pin_row(heap: Global, gates: usize, pins: usize) -> Result<Vec<bool>, AllocError>
     ensures { IfOk result (λ v. (vec_len v ≡ gates) × ((g : ℕ) → g < gates → slice_index_or v.items g false ≡ nat_lt g pins)) }
 {
-    let mut row = Vec::new(heap);
-    for g in 0..gates {
-        row.push(g < pins)?;
-    }
-    Ok(row)
+    (0..gates).map(|g| g < pins).collect(heap)
 }
 
 impl Wiring {

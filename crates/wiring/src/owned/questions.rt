@@ -4,6 +4,7 @@ ghost use Rattle.wiring.specs.Wiring.{wiring_net};
 ghost use Rattle.wiring.specs.Laws.{few_gates_hold, few_wires_hold, drivers_within, drivens_within, counts_within, no_free_round, none_past_wires, none_past_gates};
 
 use crate::owned::Wiring;
+use crate::wire::{arc_at, wire_at};
 use graph::ask::Graph;
 use netlist::ask::Netlist;
 
@@ -19,12 +20,7 @@ impl Graph for Wiring {
     }
 
     fn arc(&self, a: usize) -> (usize, usize, bool) {
-        if a < self.wires.len() {
-            let wire = self.wires[a];
-            (wire.driver as usize, wire.driven as usize, wire.count == 0)
-        } else {
-            (0, 0, false)
-        }
+        arc_at(&self.wires, a)
     }
 }
 
@@ -56,15 +52,10 @@ impl Netlist for Wiring {
     }
 
     fn is_pinned(&self, gate: usize) -> bool {
-        gate < self.pins.len() && self.pins[gate]
+        self.pins.get(gate).copied().unwrap_or(false)
     }
 
     fn wire(&self, k: usize) -> (usize, usize, u32) {
-        if k < self.wires.len() {
-            let wire = self.wires[k];
-            (wire.driver as usize, wire.driven as usize, wire.count)
-        } else {
-            (0, 0, 0)
-        }
+        wire_at(&self.wires, k)
     }
 }

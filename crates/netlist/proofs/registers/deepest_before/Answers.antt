@@ -1,19 +1,17 @@
-use Rattle.std.proofs.Common.{◌∙◌}
-use Rattle.netlist.proofs.Tallies.{deepest_take, deepest_pass_driver, deepest_pass_mark}
+use Rattle.std.proofs.Common.{◌∙◌, ap, sym, arith, rules}
+use Rattle.std.specs.Option.{unwrap_or}
+use Rattle.std.proofs.lemmas.Iterator.{YieldsList-from_range, YieldsList-from_map}
+use Rattle.std.proofs.lemmas.Iterator.Consumers.{YieldsList-from_filter, YieldsList-at, max_from_yields_List}
+use Rattle.std.proofs.lemmas.Iterator.Adapters.{option_map_id}
+use Rattle.netlist.specs.Tally.{together}
+use Rattle.netlist.proofs.Ranges.{max_range}
 use Rattle.netlist.proofs.registers.deepest_before.Goals as goal
-use Rattle.netlist.proofs.registers.deepest_before.Goals.{then-u-driver+then-mark, else-u-driver, else-u-driver-via-then-u-driver+else-mark, else-u-driver-via-else-u-driver}
 
-pub loop-k-preserved : goal.loop-k-preserved
-loop-k-preserved g c =
-    let n = g.N.Netlist.meaning c.args.net.now in
-    let mark = g.S.Sharing.marking c.args.rule.now in
-    let take = deepest_take n mark c.args.driver c.args.mark c.loop-k.k c.wire-u.result c.wire-u.ensures.value in
-    let pass_driver = deepest_pass_driver n mark c.args.driver c.args.mark c.loop-k.k c.wire-u.result c.wire-u.ensures.value in
-    let pass_mark = deepest_pass_mark n mark c.args.driver c.args.mark c.loop-k.k c.wire-u.result c.wire-u.ensures.value in
-    elim c.if-u-driver.branch [
-      | then-u-driver+then-mark w ↦ w.deepest-is ∙ w.max-deepest.ensures ∙ take _ _ c.loop-k.invariant w.if-u-driver.true w.mark.ensures w.if-mark.true
-      | else-u-driver w ↦ w.deepest-is ∙ elim w.else-u-driver.branch [
-        | else-u-driver-via-then-u-driver+else-mark v ↦ pass_mark _ _ c.loop-k.invariant v.mark.ensures v.if-mark.false
-        | else-u-driver-via-else-u-driver v ↦ pass_driver _ c.loop-k.invariant v.if-u-driver.false
-      ]
-    ]
+pub returns : goal.returns
+returns g c =
+    let net = g.N.Netlist.meaning c.args.net.now in
+    let test = together net (g.S.Sharing.marking c.args.rule.now) c.args.driver c.args.mark in
+    let wire = c.args.wire in
+    let range = YieldsList-from_range 0 wire wire c.filter.ensures.source (omega arith) in
+    let greatest = max_from_yields_List c.map.result c.max.result c.max.ensures.ran (YieldsList-from_map _ net.count (YieldsList-at c.map.ensures.source (YieldsList-from_filter _ test range c.filter.ensures.closure (λ x b q k. search rules))) c.map.ensures.closure (λ x r q k. search rules)) in
+    c.unwrap_or.ensures ∙ ap (λ o. unwrap_or o 0) (sym (option_map_id c.max.result) ∙ greatest) ∙ max_range test net.count wire

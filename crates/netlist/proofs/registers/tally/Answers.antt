@@ -1,21 +1,32 @@
-use Rattle.std.proofs.Common.{◌<◌, sym, ap, ◌∙◌, arith}
-use Rattle.netlist.proofs.Tallies.{tally_upto, tally_none, tally_step, tally_all}
+use Rattle.std.proofs.Common.{◌<◌, ◌^◌, ap, ◌∙◌, arith, rules}
+use Rattle.std.specs.List.{range_with_len, sum_by}
+use Rattle.std.proofs.lemmas.Iterator.{YieldsList-from_range, YieldsList-from_map}
+use Rattle.std.proofs.lemmas.Iterator.Consumers.{sum_by_from_yields_List, fits_by_from_yields_list}
+use Rattle.graph.specs.Sums.{total}
+use Rattle.netlist.specs.Tally.{added}
+use Rattle.netlist.proofs.Ranges.{total_range, total_under}
+use Rattle.netlist.proofs.Tallies.{added_all}
 use Rattle.netlist.proofs.registers.tally.Goals as goal
 
-pub loop-k-init : goal.loop-k-init
-loop-k-init g c = (sym (tally_none _ _), omega arith)
-
-pub loop-k-preserved : goal.loop-k-preserved
-loop-k-preserved g c =
-    let n = g.N.Netlist.meaning c.args.net.now in
-    let k = c.loop-k.k in
-    let is_wire : k < n.wires = omega (arith, c.wire_count-k-end.ensures, c.loop-k-test.true) in
+pub sum-requires-clause-fits : goal.sum-requires-clause-fits
+sum-requires-clause-fits g c =
+    let net = g.N.Netlist.meaning c.args.net.now in
     let laws = g.met.N.Netlist in
-    let few : k < 4096 = omega (arith, laws.few_wires c.args.net.now) in
-    tally_step n (g.S.Sharing.marking c.args.rule.now) k c.loop-k.sum _ _ _ c.wire-driver.result c.wire-driver.ensures.value (laws.drivers c.args.net.now k is_wire) (g.met.S.Sharing.small c.args.rule.now _ _ k few) (laws.counts c.args.net.now k) c.mark-mark.ensures c.deepest_before-covered.ensures c.saturating_sub.ensures c.loop-k.invariant
+    let mark = g.S.Sharing.marking c.args.rule.now in
+    let wires = c.wire_count.result in
+    let range = YieldsList-from_range 0 wires wires c.map.ensures.source (omega arith) in
+    let under = total_under (added net mark) 1048575 wires (λ k. omega (arith, laws.counts c.args.net.now k)) in
+    let small : sum_by (added net mark) (range_with_len 0 wires) < 2 ^ 64 = omega (arith, total_range (added net mark) wires, under, c.wire_count.ensures, laws.few_wires c.args.net.now) in
+    fits_by_from_yields_list (added net mark) (range_with_len 0 wires) c.map.result (2 ^ 64) (YieldsList-from_map _ (added net mark) range c.map.ensures.closure (λ x r q k. search rules)) small
 
 pub returns : goal.returns
 returns g c =
-    let n = g.N.Netlist.meaning c.args.net.now in
+    let net = g.N.Netlist.meaning c.args.net.now in
+    let laws = g.met.N.Netlist in
     let mark = g.S.Sharing.marking c.args.rule.now in
-    c.loop-k.invariant.0 ∙ ap (tally_upto n mark) (omega (arith, c.wire_count-k-end.ensures, c.loop-k-test.false, c.loop-k.auto)) ∙ sym (tally_all n mark)
+    let wires = c.wire_count.result in
+    let range = YieldsList-from_range 0 wires wires c.map.ensures.source (omega arith) in
+    sum_by_from_yields_List (added net mark) (range_with_len 0 wires) c.map.result _ c.sum.ensures.ran (YieldsList-from_map _ (added net mark) range c.map.ensures.closure (λ x r q k. search rules))
+    ∙ total_range (added net mark) wires
+    ∙ ap (total (added net mark)) c.wire_count.ensures
+    ∙ added_all net mark (laws.drivers c.args.net.now) (λ k l. g.met.S.Sharing.small c.args.rule.now _ _ k (omega (arith, laws.few_wires c.args.net.now)))

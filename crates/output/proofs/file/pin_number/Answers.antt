@@ -1,15 +1,18 @@
-use Rattle.std.proofs.Common.{ℕ, ◌+◌, sym, subst}
-use Rattle.output.proofs.Pinning.{Counted, counted_pinned, counted_free}
+use Rattle.std.proofs.Common.{◌≡◌, true, false, arith, rules, tests}
+use Rattle.std.proofs.lemmas.Iterator.{first_from_Range}
+use Rattle.output.proofs.Pinning.{pins_first, late_pin}
 use Rattle.output.proofs.file.pin_number.Goals as goal
-use Rattle.output.proofs.file.pin_number.Goals.{then-is_pinned+else-pins-gate, else-is_pinned}
 
-pub loop-gate-preserved : goal.loop-gate-preserved
-loop-gate-preserved g c =
+pub returns-in-Some : goal.returns-in-Some
+returns-in-Some g c =
     let n = g.N.Netlist.meaning c.args.net.now in
-    let gate = c.loop-gate.gate in
-    let so_far = c.loop-gate.invariant in
-    let more = λ (pins : ℕ). Counted n (gate + 1) pins in
-    elim c.if-is_pinned.branch [
-      | then-is_pinned+else-pins-gate w ↦ subst more (sym w.pins-is) (counted_pinned n gate c.loop-gate.pins so_far w.if-is_pinned.ensures w.if-pins-gate.false)
-      | else-is_pinned w ↦ subst more (sym w.pins-is) (counted_free n gate c.loop-gate.pins so_far w.if-is_pinned.ensures)
-    ]
+    let first = first_from_Range _ _ _ c.find.result (λ k. n.pinned k ≡ true) (λ k. n.pinned k ≡ false) c.find.ensures.ran (λ k q called. search (rules, tests)) (λ k q called. search (rules, tests)) in
+    let found = rw c.in-Some.is at first in
+    late_pin n c.leading_pins-pins.result c.leading_pins-pins.ensures c.in-Some.gate found.0 (omega (arith, found.1, c.gate_count.ensures)) found.2 found.3
+
+pub returns-in-None : goal.returns-in-None
+returns-in-None g c =
+    let n = g.N.Netlist.meaning c.args.net.now in
+    let first = first_from_Range _ _ _ c.find.result (λ k. n.pinned k ≡ true) (λ k. n.pinned k ≡ false) c.find.ensures.ran (λ k q called. search (rules, tests)) (λ k q called. search (rules, tests)) in
+    let none = rw c.in-None.is at first in
+    pins_first n c.leading_pins-pins.result c.leading_pins-pins.ensures (λ k high l. none k high (omega (arith, c.gate_count.ensures)))

@@ -1,29 +1,14 @@
-use Rattle.std.proofs.Common.{◌≤◌, length, arith, rules}
-use Rattle.wiring.proofs.Holding.{Sound}
-use Rattle.output.proofs.Settling.{front_lists}
+use Rattle.std.proofs.Common.{◌≡◌, ◌≤◌, length, arith, rules}
+use Rattle.wiring.proofs.Lawful.{sound_of}
+use Rattle.output.proofs.Settling.{front_settled}
 use Rattle.output.proofs.records.settle.Goals as goal
 
 pub returns : goal.returns
 returns g c =
     let net = c.args.net.now in
-    let laws = g.met.N.Netlist in
     let n = g.N.Netlist.meaning net in
-    let sound : Sound n = record {
-      few_gates = laws.few_gates net;
-      few_wires = laws.few_wires net;
-      drivers = laws.drivers net;
-      drivens = laws.drivens net;
-      counts = laws.counts net;
-      rounds = laws.rounds net;
-      past_wires = laws.past_wires net;
-      past_gates = laws.past_gates net;
-    } in
-    let room : n.wires ≤ length c.args.list.now = omega (arith, c.wire_count-wires.ensures) in
-    let room_after : n.wires ≤ length c.put_wires.new.list = search rules in
-    record {
-      size_is = c.wire_count-wires.ensures;
-      room = room;
-      written = c.put_wires.ensures.written;
-      kept = c.put_wires.ensures.kept;
-      opens = front_lists n sound c.put_wires.new.list room_after c.put_wires.ensures.written;
-    }
+    let before = c.args.list.now in
+    let front = c.put_wires.new.list in
+    let room : n.wires ≤ length before = omega (arith, c.wire_count-wires.ensures) in
+    let long : length front ≡ n.wires = search rules in
+    front_settled n (sound_of g.met.N.Netlist net) front before c.wire_count-wires.result c.wire_count-wires.ensures long room c.put_wires.ensures

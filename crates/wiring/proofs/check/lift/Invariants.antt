@@ -1,6 +1,0 @@
-use Rattle.std.proofs.Common.{◌≡◌, ℕ, ◌<◌, false}
-use Rattle.wiring.specs.Levels.{RisesAt}
-use Rattle.wiring.proofs.check.lift.Given as goal
-
-abbrev pub invariant-loop-wire : goal.invariant-loop-wire
-invariant-loop-wire l = l.lifted ≡ false → (k : ℕ) → k < l.wire-index → RisesAt l.wires.list.now l.levels k
