@@ -4,44 +4,41 @@
 
 mod shape;
 
-use anyhow::anyhow;
 use engine::calls::fewest;
-use engine::link::Link;
 use retiming::way::Way;
-use shape::{SHAPES, Shape};
-use std::alloc::{AllocError, Global};
+use shape::{GATES, Shape};
+use std::rt::Clock;
 use std::time::Instant;
 
-const GATES: usize = 1024;
-
 fn main(rt: HostRuntime) -> anyhow::Result<()> {
-    for shape in SHAPES {
-        let name = shape.name();
-        let links = shape.links(rt.alloc())?;
-        let fixed = first_fixed(rt.alloc(), shape)?;
-        let mut lags = [0i32; GATES];
-        let start = Instant::now(&rt)?;
-        let (before, between) = moved(Way::Forward, links.as_slice(), fixed.as_slice(), &mut lags)?;
-        let (_, after) = moved(Way::Back, links.as_slice(), fixed.as_slice(), &mut lags)?;
-        let micros = start.elapsed(&rt)?.as_micros();
-        let wires = links.len();
-        println!(rt; "{name}: {wires} wires, registers {before} {between} {after}")?;
-        eprintln!(rt; "{name}: {micros} us")?;
-    }
+    let heap = rt.alloc();
+    time(&rt, &shape::chain(heap)?)?;
+    time(&rt, &shape::random(heap, "random, 1 to 255", 255)?)?;
+    time(&rt, &shape::random(heap, "random, 1 to 3", 3)?)?;
+    time(&rt, &shape::downhill(heap)?)?;
+    time(&rt, &shape::grid(heap)?)?;
+    time(&rt, &shape::hub(heap)?)?;
+    time(&rt, &shape::tree(heap)?)?;
+    time(&rt, &shape::parallel(heap)?)?;
+    time(&rt, &shape::joined(heap)?)?;
+    time(&rt, &shape::ring(heap)?)?;
+    time(&rt, &shape::layers(heap)?)?;
+    time(&rt, &shape::alone(heap)?)
+}
+
+fn time(rt: &(impl Print + Eprint + Clock + AllocGlobal), shape: &Shape) -> anyhow::Result<()> {
+    let name = shape.name;
+    let links = shape.links.as_slice();
+    let fixed: Vec<bool> = (0..GATES)
+        .map(|gate| gate < shape.fixed)
+        .collect(rt.alloc())?;
+    let mut lags = [0i32; GATES];
+    let start = Instant::now(rt)?;
+    let (before, between) = fewest(Way::Forward, GATES, links, fixed.as_slice(), &mut lags)?;
+    let (_, after) = fewest(Way::Back, GATES, links, fixed.as_slice(), &mut lags)?;
+    let micros = start.elapsed(rt)?.as_micros();
+    let wires = links.len();
+    println!(rt; "{name}: {wires} wires, registers {before} {between} {after}")?;
+    eprintln!(rt; "{name}: {micros} us")?;
     Ok(())
-}
-
-fn first_fixed(heap: Global, shape: Shape) -> Result<Vec<bool>, AllocError> {
-    let mut fixed = Vec::new(heap);
-    for gate in 0..GATES {
-        fixed.push(gate < shape.fixed())?;
-    }
-    Ok(fixed)
-}
-
-fn moved(way: Way, links: &[Link], fixed: &[bool], lags: &mut [i32]) -> anyhow::Result<(u64, u64)> {
-    match fewest(way, GATES, links, fixed, lags) {
-        Ok(answer) => Ok(answer),
-        Err(_) => Err(anyhow!("the table is not fit")),
-    }
 }

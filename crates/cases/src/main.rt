@@ -2,38 +2,37 @@
 // says of each accepted one whether opening and writing give its bytes again.
 #![tactic(auto)]
 
-use anyhow::anyhow;
+use anyhow::Context;
+use drawings::{Report, each_drawing};
 use listing::lines::refused;
 use listing::run::run;
 use output::fault::RewriteFault;
 use output::file::rewrite;
 use std::alloc::{AllocError, Global};
-use std::fs;
 
 fn main(rt: HostRuntime) -> anyhow::Result<()> {
-    let heap = rt.alloc();
-    for line in rt.lines(heap) {
-        let name = line?;
-        let path = format!(in heap; "{name}.net")?;
-        let bytes = fs::read(&rt, path.as_str())?;
-        let text = listed(heap, bytes.as_slice())?;
-        println!(rt; "{name}")?;
-        rt.print(text)?;
-    }
-    Ok(())
+    each_drawing(&rt, &Listed { heap: rt.alloc() })
 }
 
-// What the program prints for a drawing; behind it, for an accepted one, whether it is rewritten byte for byte.
-fn listed(heap: Global, bytes: &[u8]) -> anyhow::Result<String> {
-    match run(heap, bytes) {
-        Ok(text) => {
-            let answer = rewritten(heap, bytes)?;
-            Ok(format!(in heap; "{text}rewritten: {answer}\n")?)
+// Lists a drawing and says behind it, where it is accepted, whether it is rewritten byte for byte.
+#[derive(Drop)]
+struct Listed {
+    heap: Global,
+}
+
+impl Report for Listed {
+    fn report(&self, bytes: &[u8]) -> anyhow::Result<String> {
+        let heap = self.heap;
+        match run(heap, bytes) {
+            Ok(text) => {
+                let answer = rewritten(heap, bytes)?;
+                Ok(format!(in heap; "{text}rewritten: {answer}\n")?)
+            }
+            Err(fault) => {
+                let refusal = fault.refusal().context("out of memory")?;
+                Ok(refused(heap, refusal.number)?)
+            }
         }
-        Err(fault) => match fault.refusal() {
-            Some(refusal) => Ok(refused(heap, refusal.number)?),
-            None => Err(anyhow!("out of memory")),
-        },
     }
 }
 

@@ -1,11 +1,13 @@
 // A drawing as a file: its check, and its opening as a netlist in memory.
-ghost use Rattle.std.specs.Prelude.{◌≡◌, ℕ, ◌+◌, ◌*◌, ◌<◌, ◌≤◌, length, take, drop, IfOk, MatchResult, slice_index_or};
+ghost use Rattle.std.specs.Prelude.{◌≡◌, ℕ, ◌<◌, ◌≤◌, [], length, drop, min, IfOk, MatchResult, slice_index_or};
+ghost use Rattle.arrayvec.specs.ArrayVec.{array_vec_len};
 ghost use Rattle.drawing.specs.File.{Accepts, Refuses, Opened};
-ghost use Rattle.drawing.specs.Parsed.{SizesOf, wire_from, wire_behind, ParsedFrom};
+ghost use Rattle.drawing.specs.Parsed.{SizesOf, wire_from, ParsedFrom};
 ghost use Rattle.wiring.specs.Wires.{no_wire};
 ghost use Rattle.wiring.specs.Wiring.{wiring_net};
 
 use crate::parsed::{Parsed, Sizes};
+use arrayvec::ArrayVec;
 use std::alloc::{AllocError, Global};
 use wiring::check::check_up_to;
 use wiring::fault::CheckFault;
@@ -40,25 +42,21 @@ fn read_wire(ends: [u8; 4], count: [u8; 2]) -> Wire
     Wire {
         driver: u16::from_le_bytes([u0, u1]),
         driven: u16::from_le_bytes([v0, v1]),
-        count: u16::from_le_bytes(count) as u32,
+        count: u32::from(u16::from_le_bytes(count)),
     }
 }
 
-// So many wires from the bytes behind the sizes, at the front of an array.
-fn read_wires(rest: &[u8], wires: usize) -> [Wire; 4096]
-    requires exact { length rest.now ≡ 6 * wires }
-    requires few { wires ≤ 4096 }
-    ensures { (k : ℕ) → k < wires → slice_index_or result k no_wire ≡ wire_behind rest.now wires k }
+// The wires from the bytes of their ends and those of their counts.
+fn read_wires(ends: &[[u8; 4]], counts: &[[u8; 2]]) -> ArrayVec<Wire, 4096>
+    requires { length ends.now ≤ 4096 }
+    ensures long { array_vec_len result ≡ min (length ends.now) (length counts.now) }
+    ensures each { (k : ℕ) → k < array_vec_len result → slice_index_or result.items k no_wire ≡ wire_from (slice_index_or ends.now k []) (slice_index_or counts.now k []) }
 {
-    let (front, back) = rest.split_at(4 * wires);
-    let (ends, _) = front.as_chunks::<4>();
-    let (counts, _) = back.as_chunks::<2>();
-    let mut list = [Wire::default(); 4096];
-    // By index, since the proof does not close over counts that are zipped to the ends.
-    for (k, ends) in ends.iter().enumerate() {
-        list[k] = read_wire(*ends, counts[k]);
+    let mut wires = ArrayVec::new();
+    for (ends, count) in ends.iter().zip(counts) {
+        wires.push(read_wire(*ends, *count));
     }
-    list
+    wires
 }
 
 // What an accepted file says.
@@ -66,10 +64,13 @@ fn parse(bytes: &[u8]) -> Result<Parsed, CheckFault>
     ensures { MatchResult result (ParsedFrom bytes.now) (Refuses bytes.now) }
 {
     let (sizes, rest) = read_sizes(bytes)?;
-    let list = read_wires(rest, sizes.wires);
-    let parsed = Parsed { sizes, list };
-    check_up_to(255, sizes.gates, sizes.pins, parsed.wires())?;
-    Ok(parsed)
+    let (front, back) = rest.split_at(4 * sizes.wires);
+    let (ends, _) = front.as_chunks::<4>();
+    let (counts, _) = back.as_chunks::<2>();
+    let wires = read_wires(ends, counts);
+    let Sizes { gates, pins, .. } = sizes;
+    check_up_to(255, gates, pins, wires.as_slice())?;
+    Ok(Parsed { gates, pins, wires })
 }
 
 // Checks a file completely. It leaves nothing to opening, which checks again.
@@ -85,10 +86,7 @@ pub fn open(heap: Global, bytes: &[u8]) -> Result<Wiring, AllocError>
     ensures { IfOk result (λ w. Opened bytes.now (wiring_net w)) }
 {
     match parse(bytes) {
-        Ok(parsed) => {
-            let sizes = parsed.sizes;
-            list::open(heap, sizes.gates, sizes.pins, parsed.wires())
-        }
+        Ok(parsed) => list::open(heap, parsed.gates, parsed.pins, parsed.wires.as_slice()),
         Err(_) => Ok(Wiring::empty(heap)),
     }
 }

@@ -1,5 +1,5 @@
 -- A stuck set moved as far as its slack: the lags are kept nearest, fewer registers are needed, and the rows go on.
-use Rattle.std.proofs.Common.{◌≡◌, ℕ, ◌+◌, ◌<◌, ◌≤◌, Bool, true, false, cond, List, length, get_or, ℤ, nat_abs, sym, refl, ap, ◌∙◌, subst, ap₂, subst₂, arith}
+use Rattle.std.proofs.Common.{◌≡◌, ℕ, ◌+◌, ◌<◌, ◌≤◌, Bool, true, false, cond, List, length, get_or, ℤ, nat_abs, sym, refl, ap, ◌∙◌, subst, subst₂, arith}
 use Rattle.std.proofs.lemmas.Bool.{and_parts, and_left, eqb-true, le-ltb}
 use Rattle.netlist.specs.Lags.{under, needs}
 use Rattle.retiming.specs.declared.way.Way.{Way}
@@ -13,7 +13,7 @@ use Rattle.retiming.proofs.Push.{push_none}
 use Rattle.retiming.proofs.Kept.{kept_start, kept_pushed, kept_nearest}
 use Rattle.retiming.proofs.Sets.{ReachedSet, ClosedWires, side, closed_from, set_pushed, set_falls, set_within}
 use Rattle.engine.specs.declared.link.Link.{Link}
-use Rattle.engine.specs.Round.{Stuck, AllDone, excess}
+use Rattle.engine.specs.Round.{Stuck, AllDone}
 use Rattle.engine.specs.Rows.{holder, shares, flows, deep, Depths, Holding}
 use Rattle.engine.specs.State.{needs_of, Within, State, Better}
 use Rattle.engine.specs.Step.{inside, to_beyond, from_beyond, Slack}
@@ -92,7 +92,7 @@ module _ (way : Way) (gates : ℕ) (links : List Link) (fixed : List Bool) (firs
     pub still_standing : gates ≤ length lags' → Within gates links 1048575 first → Standing gates links lags'
     still_standing long near = record { long = long; near = λ g h. omega (arith, still_within 1048575 near g h); counts = pushed.permitted.counts }
 
-    pub state_after : (depths' : List ℕ) → Standing gates links lags' → Depths gates links lags' depths' → State way gates links fixed first lags' depths' holders row
+    state_after : (depths' : List ℕ) → Standing gates links lags' → Depths gates links lags' depths' → State way gates links fixed first lags' depths' holders row
     state_after depths' standing deeps = record {
       standing = standing;
       depths_are = deeps;
@@ -111,16 +111,14 @@ module _ (way : Way) (gates : ℕ) (links : List Link) (fixed : List Bool) (firs
       past = λ g h. moved g ∙ ap (λ b. push way (cond b by 0) (lags_of lags g)) (and_left _ _ (le-ltb g gates h)) ∙ push_none way (lags_of lags g) ∙ state.past g h;
     }
 
+    -- with the counts read anew
+    pub state_on : gates ≤ length lags' → Within gates links 1048575 first → (depths' : List ℕ) → Depths gates links lags' depths' → State way gates links fixed first lags' depths' holders row
+    state_on long near depths' deeps = state_after depths' (still_standing long near) deeps
+
 -- a round that was stuck left the rows as they were
 module _ (way : Way) (gates : ℕ) (links : List Link) (fixed : List Bool) (first lags : List ℤ) (depths holders row holders' row' marks : List ℕ) (came : (holders' ≡ holders) × (row' ≡ row) × Stuck way gates links fixed depths holders row marks) where
-  pub stuck_now : Stuck way gates links fixed depths holders' row' marks
-  stuck_now = subst₂ (λ (h f : List ℕ). Stuck way gates links fixed depths h f marks) (sym came.0) (sym came.1) came.2
-
   pub state_now : State way gates links fixed first lags depths holders row → State way gates links fixed first lags depths holders' row'
   state_now s = subst₂ (λ (h f : List ℕ). State way gates links fixed first lags depths h f) (sym came.0) (sym came.1) s
-
-  pub excess_now : excess way gates links fixed holders' row' ≡ excess way gates links fixed holders row
-  excess_now = ap₂ (λ (h f : List ℕ). excess way gates links fixed h f) came.0 came.1
 
 -- the state before the first round
 pub state_first : (way : Way) (gates : ℕ) (links : List Link) (fixed : List Bool) (lags : List ℤ) (depths holders row : List ℕ) → Tabled gates links → Standing gates links lags → Depths gates links lags depths → Holding links depths holders row → State way gates links fixed lags lags depths holders row

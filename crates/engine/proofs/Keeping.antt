@@ -1,5 +1,5 @@
 -- A move that the rows leave keeps them in force.
-use Rattle.std.proofs.Common.{◌≡◌, ℕ, ◌+◌, ◌-◌, ◌*◌, ◌<◌, ◌≤◌, true, eqb, List, length, get_or, set, sym, ap, ◌∙◌, subst, inl, inr, arith}
+use Rattle.std.proofs.Common.{◌≡◌, ℕ, ◌+◌, ◌-◌, ◌<◌, ◌≤◌, true, eqb, List, length, get_or, set, sym, ap, ◌∙◌, subst, inl, inr, arith}
 use Rattle.std.proofs.lemmas.List.{length-set, get_or-set_same, get_or-set_other}
 use Rattle.std.proofs.lemmas.Bool.{cases_eq, and_parts, eqb-true, ltb-true}
 use Rattle.engine.specs.declared.link.Link.{Link}
@@ -7,11 +7,10 @@ use Rattle.engine.specs.declared.moves.Move.{Move}
 use Rattle.engine.specs.declared.moves.Move.TheVariants.{More, Less, Hand}
 use Rattle.engine.specs.Carried.{flows_after, holders_after}
 use Rattle.engine.specs.Leftover.{possible}
-use Rattle.engine.specs.Moves.{numbered, wire_of}
+use Rattle.engine.specs.Moves.{wire_of}
 use Rattle.engine.specs.Rows.{holder, flows, Holding}
 use Rattle.engine.specs.Table.{no_link, Tabled}
 use Rattle.engine.proofs.Holders.{number_held, one_holder, holder_here, holder_else}
-use Rattle.engine.proofs.Numbered.{wire_within}
 
 module _ (gates : ℕ) (links : List Link) (depths holders row : List ℕ) (tabled : Tabled gates links) (holding : Holding links depths holders row) where
   flow_set : (k v : ℕ) → k < length links → (0 < get_or depths k 0 → v ≡ 0) → v ≤ 4096 → Holding links depths holders (set row k v)
@@ -58,8 +57,3 @@ module _ (gates : ℕ) (links : List Link) (depths holders row : List ℕ) (tabl
   holding_after (More k) h can = let parts = and_parts (eqb (get_or depths k 0) 0) _ can in flow_set k (get_or row k 0 + 1) h (λ full. absurd (omega (arith, eqb-true (get_or depths k 0) 0 parts.0))) (omega (arith, ltb-true (flows row k) 4096 parts.1))
   holding_after (Less k) h can = flow_set k (get_or row k 0 - 1) h (λ full. omega (arith, holding.dry k h full)) (omega (arith, holding.small k h))
   holding_after (Hand k) h can = share_set k h (eqb-true (get_or depths k 0) (get_or depths (holder links holders k) 0) can)
-
-  pub arc_kept : (a : ℕ) → a < 3 * length links → possible links depths holders row (numbered (length links) a) ≡ true →
-      (holders' row' : List ℕ) → holders' ≡ holders_after links (numbered (length links) a) holders → row' ≡ flows_after (numbered (length links) a) row → Holding links depths holders' row'
-  arc_kept a h can holders' row' shares_are flows_are =
-      subst (λ (hs : List ℕ). Holding links depths hs row') (sym shares_are) (subst (λ (fs : List ℕ). Holding links depths (holders_after links (numbered (length links) a) holders) fs) (sym flows_are) (holding_after (numbered (length links) a) (wire_within (length links) a h) can))

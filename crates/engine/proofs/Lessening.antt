@@ -6,25 +6,17 @@ use Rattle.retiming.specs.declared.way.Way.{Way}
 use Rattle.retiming.specs.declared.way.Way.TheVariants.{Forward, Back}
 use Rattle.retiming.specs.Tied.{Excess, Spent, opposite}
 use Rattle.retiming.specs.Witness.{gain, cost}
-use Rattle.retiming.proofs.Falls.{won, lost}
+use Rattle.retiming.proofs.Falls.{won, lost, excess_wins, spent_wins}
 use Rattle.retiming.proofs.Units.{unit_at}
 use Rattle.engine.specs.declared.link.Link.{Link}
 use Rattle.engine.specs.Carried.{Carried}
 use Rattle.engine.specs.Round.{Over, AllDone, surplus_at, Less}
-use Rattle.engine.specs.Rows.{shares, flows, Holding}
+use Rattle.engine.specs.Rows.{shares, flows}
 use Rattle.engine.specs.Table.{table, fixed_of}
-
-over_won : (way : Way) (x y : ℕ) → Excess way x y → lost way x y < won way x y
-over_won Forward x y e = e
-over_won Back x y e = e
 
 lacks_won : (way : Way) (x y : ℕ) → Excess (opposite way) x y → won way x y < lost way x y
 lacks_won Forward x y e = e
 lacks_won Back x y e = e
-
-done_won : (way : Way) (x y : ℕ) → Spent (opposite way) x y → lost way x y ≤ won way x y
-done_won Forward x y e = e
-done_won Back x y e = e
 
 won_done : (way : Way) (x y : ℕ) → lost way x y ≤ won way x y → Spent (opposite way) x y
 won_done Forward x y e = e
@@ -45,7 +37,7 @@ module _ (way : Way) (gates : ℕ) (links : List Link) (fixed : List Bool) (hold
   l hs fs g = lost way (gain (table gates links) (shares links hs) (flows fs) g) (cost (table gates links) (shares links hs) (flows fs) g)
 
   source_over : l holders row s < w holders row s
-  source_over = over_won way _ _ over
+  source_over = excess_wins way _ _ over
 
   -- a gate that may move and takes the unit lacks one
   sink_lacks : fixed_of fixed t ≡ false → w holders row t < l holders row t
@@ -74,9 +66,8 @@ module _ (way : Way) (gates : ℕ) (links : List Link) (fixed : List Bool) (hold
           omega (arith, moved.moved g h, at_other s g (λ d. other (sym d)), cond-true {A = ℕ} (eqb t g) 1 0 (eq-eqb t g e), lack)
       same f (inr d) = omega (arith, moved.moved g h, at_other s g (λ e. other (sym e)), at_other t g d)
 
-  pub carried_less : (depths : List ℕ) → Holding links depths holders' row' → Less way gates links fixed depths holders row holders' row'
-  carried_less depths holding = record {
-    holding = holding;
+  pub carried_less : Less way gates links fixed holders row holders' row'
+  carried_less = record {
     fewer = omega (arith, total_change (surplus_at way gates links fixed holders' row') (surplus_at way gates links fixed holders row) gates s within elsewhere, at_source);
     against = λ done g h f. won_done way _ _ (kept done g h f (cases_eq s g) (cases_eq t g));
   }
@@ -88,5 +79,5 @@ module _ (way : Way) (gates : ℕ) (links : List Link) (fixed : List Bool) (hold
           omega (arith, moved.moved g h, cond-true {A = ℕ} (eqb s g) 1 0 (eq-eqb s g e), at_other t g d, over_g)
       kept done g h f (inr e) (inl d) =
           let lack : w holders row g < l holders row g = subst (λ (x : ℕ). w holders row x < l holders row x) d (sink_lacks (subst (λ (x : ℕ). fixed_of fixed x ≡ false) (sym d) f)) in
-          absurd (omega (arith, lack, done_won way _ _ (done g h f)))
-      kept done g h f (inr e) (inr d) = omega (arith, moved.moved g h, at_other s g e, at_other t g d, done_won way _ _ (done g h f))
+          absurd (omega (arith, lack, spent_wins way _ _ (done g h f)))
+      kept done g h f (inr e) (inr d) = omega (arith, moved.moved g h, at_other s g e, at_other t g d, spent_wins way _ _ (done g h f))

@@ -6,7 +6,6 @@ pub mod Certified
 pub mod Choosing
 pub mod Closing
 pub mod Deciding
-pub mod Filling
 pub mod Holders
 pub mod Keeping
 pub mod Leftovers

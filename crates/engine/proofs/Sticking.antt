@@ -32,7 +32,7 @@ module _ (way : Way) (gates : ℕ) (links : List Link) (fixed : List Bool) (dept
   done_from : (w : Way) (g : ℕ) → g < gates → Spent w (get_or gains g 0) (get_or costs g 0) → Done w gates links holders row g
   done_from w g l e = subst₂ (λ (x y : ℕ). Spent w x y) (priced.gains_are g l) (priced.costs_are g l) e
 
-  module _ (before first marks : List ℕ) (n : ℕ) (seeded : Seeded way gates fixed gains costs before first) (searched : Searched (leftover way gates links depths holders row) first marks n) where
+  module _ (first marks : List ℕ) (n : ℕ) (seeded : Seeded way gates fixed gains costs first) (searched : Searched (leftover way gates links depths holders row) first marks n) where
     reached_mark : (v : ℕ) → v < gates → Reached (leftover way gates links depths holders row) (Marked (leftover way gates links depths holders row) first) v → get_or marks v 0 ≡ 1
     reached_mark v l r = elim (searched.marks v l) [ inl m ↦ m.0 | inr m ↦ absurd (m.1 r) ]
 
@@ -67,7 +67,7 @@ module _ (way : Way) (gates : ℕ) (links : List Link) (fixed : List Bool) (dept
         marked g h is = elim (seeded.each g h) [ inl m ↦ omega (arith, m.0) | inr m ↦ absurd (spent_over way _ _ (m.1 is.0) is.1) ]
 
   -- what the search leaves to walk back on, and where the walk ends
-  module _ (before first marks hops hops' : List ℕ) (n : ℕ) (seeded : Seeded way gates fixed gains costs before first) (traced : Traced (leftover way gates links depths holders row) first hops marks hops' n) where
+  module _ (first marks hops hops' : List ℕ) (n : ℕ) (seeded : Seeded way gates fixed gains costs first) (traced : Traced (leftover way gates links depths holders row) first hops marks hops' n) where
     pub hops_from : Hops (leftover way gates links depths holders row) marks hops'
     hops_from v l m = elim (traced.hop v l m) [
       | inl start ↦ inl start.0

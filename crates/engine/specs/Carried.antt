@@ -10,12 +10,6 @@ use Rattle.engine.specs.declared.moves.Move.TheVariants.{More, Less, Hand}
 use Rattle.engine.specs.Rows.{shares, flows}
 use Rattle.engine.specs.Table.{no_link, table}
 
--- the flow has room for the move
-abbrev pub Room : Move → List ℕ → Type 0
-Room (More k) row = flows row k < 4096
-Room (Less k) row = 0 < flows row k
-Room (Hand k) row = Unit {0}
-
 abbrev pub flows_after : Move → List ℕ → List ℕ
 flows_after (More k) row = slice_set row k (slice_index row k + 1)
 flows_after (Less k) row = slice_set row k (slice_index row k - 1)

@@ -1,5 +1,5 @@
 -- The leftover graph: its nodes are the gates, and each of its arcs is a move of one unit of surplus, open where the rows leave the move.
-use Rattle.std.specs.Prelude.{ℕ, ◌*◌, ◌<◌, Bool, ◌&&◌, List, length, ◌==◌, nat_lt, slice_index, slice_index_or}
+use Rattle.std.specs.Prelude.{ℕ, ◌*◌, Bool, ◌&&◌, List, length, ◌==◌, nat_lt, slice_index, slice_index_or}
 use Rattle.graph.specs.Digraph.{Digraph}
 use Rattle.retiming.specs.declared.way.Way.{Way}
 use Rattle.retiming.specs.declared.way.Way.TheVariants.{Forward, Back}
@@ -45,10 +45,3 @@ leftover way gates links depths holders row = record {
   to = λ a. arc_to way links holders (numbered (length links) a);
   opens = λ a. possible links depths holders row (numbered (length links) a);
 }
-
-abbrev pub EndsWithin : ℕ → List Link → Type 0
-EndsWithin gates links = (k : ℕ) → k < length links → ((slice_index_or links k no_link).driver < gates) × ((slice_index_or links k no_link).driven < gates)
-
--- each wire's bundle has its holder in the row, and it is a wire
-abbrev pub HeldWithin : List Link → List ℕ → Type 0
-HeldWithin links holders = (k : ℕ) → k < length links → ((slice_index_or links k no_link).bundle < length holders) × (holder links holders k < length links)

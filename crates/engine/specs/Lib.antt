@@ -4,8 +4,9 @@ pub mod Carried
 pub mod Fit
 pub mod Hops
 pub mod Leftover
-pub mod Lent
+pub mod Messages
 pub mod Moves
+pub mod OfRows
 pub mod Pick
 pub mod Round
 pub mod Rows

@@ -9,7 +9,7 @@ use Rattle.engine.specs.declared.link.Link.{Link}
 use Rattle.engine.specs.declared.outcome.Outcome.{Outcome}
 use Rattle.engine.specs.declared.outcome.Outcome.TheVariants.{Settled, Carried, Stuck as Halted}
 use Rattle.engine.specs.Leftover.{leftover}
-use Rattle.engine.specs.Rows.{deep, shares, flows, Holding}
+use Rattle.engine.specs.Rows.{deep, shares, flows}
 use Rattle.engine.specs.Step.{inside}
 use Rattle.engine.specs.Table.{table, bundles, fixed_of}
 
@@ -44,17 +44,16 @@ surplus_at way gates links fixed holders row g =
 abbrev pub excess : Way → ℕ → List Link → List Bool → List ℕ → List ℕ → ℕ
 excess way gates links fixed holders row = total (surplus_at way gates links fixed holders row) gates
 
--- the rows still hold, one unit less is over, and no surplus against the way has come up
-pub record Less (way : Way) (gates : ℕ) (links : List Link) (fixed : List Bool) (depths holders row holders' row' : List ℕ) : Type 0 where
-  pub holding : Holding links depths holders' row'
+-- one unit less is over, and no surplus against the way has come up
+pub record Less (way : Way) (gates : ℕ) (links : List Link) (fixed : List Bool) (holders row holders' row' : List ℕ) : Type 0 where
   pub fewer : excess way gates links fixed holders' row' + 1 ≡ excess way gates links fixed holders row
   pub against : AllDone (opposite way) gates links fixed holders row → AllDone (opposite way) gates links fixed holders' row'
 
 -- what each outcome of a round says
-abbrev pub Came : Way → ℕ → List Link → List Bool → List ℕ → List ℕ → List ℕ → List ℕ → List ℕ → List ℕ → Outcome → Type 0
-Came way gates links fixed depths holders row holders' row' marks Settled = (holders' ≡ holders) × (row' ≡ row) × AllDone way gates links fixed holders row
-Came way gates links fixed depths holders row holders' row' marks Carried = Less way gates links fixed depths holders row holders' row'
-Came way gates links fixed depths holders row holders' row' marks Halted = (holders' ≡ holders) × (row' ≡ row) × Stuck way gates links fixed depths holders row marks
+abbrev pub Came : Way → ℕ → List Link → List Bool → List ℕ → List ℕ → List ℕ → List ℕ → List ℕ → Outcome → Type 0
+Came way gates links fixed depths holders row holders' row' Settled = (holders' ≡ holders) × (row' ≡ row) × AllDone way gates links fixed holders row
+Came way gates links fixed depths holders row holders' row' Carried = Less way gates links fixed holders row holders' row'
+Came way gates links fixed depths holders row holders' row' (Halted marks) = (holders' ≡ holders) × (row' ≡ row) × Stuck way gates links fixed depths holders row marks
 
 -- some set of gates is stuck: moved as one, it saves registers
 abbrev pub Improves : Way → ℕ → List Link → List Bool → List ℕ → List ℕ → List ℕ → Type 0

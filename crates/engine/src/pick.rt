@@ -1,8 +1,11 @@
-// Which gates have a surplus to move, and which take one.
-ghost use Rattle.std.specs.Prelude.{◌≡◌, ℕ, ◌<◌, ◌≤◌, false, length, MatchBool};
-ghost use Rattle.retiming.specs.Tied.{Excess, Spent, opposite};
-ghost use Rattle.engine.specs.Pick.{Seeded, FirstSeed, FirstSink};
+// Which gates have a surplus to move, and which take one. The way comes beside the prices, since a sink is asked for by
+// the opposite one.
+ghost use Rattle.std.specs.Prelude.{◌<◌, MatchBool, MatchOption};
+ghost use Rattle.retiming.specs.Tied.{Excess, Spent};
+ghost use Rattle.engine.specs.Pick.{Seed, Idle, Sink, NoSink, NoSeed, SomeSeeds, FirstSink};
 
+use crate::price::Prices;
+use crate::table::Table;
 use retiming::way::Way;
 
 // Whether a gate with such a gain and cost has a surplus that the way moves.
@@ -15,70 +18,42 @@ fn exceeds(way: Way, gain: u32, cost: u32) -> bool
     }
 }
 
-// Whether it lacks one.
-fn lacks(way: Way, gain: u32, cost: u32) -> bool
-    ensures { MatchBool result (Excess (opposite way) gain cost) (Spent (opposite way) gain cost) }
-{
-    match way {
-        Way::Forward => exceeds(Way::Back, gain, cost),
-        Way::Back => exceeds(Way::Forward, gain, cost),
+impl Table<'_> {
+    // Whether a gate may move and has a surplus to move.
+    fn is_seed(&self, way: Way, prices: &Prices, gate: usize) -> bool
+        requires { gate < self.now.gates }
+        ensures { MatchBool result (Seed way self.now.fixed.now prices.now.gains prices.now.costs gate) (Idle way self.now.fixed.now prices.now.gains prices.now.costs gate) }
+    {
+        !self.fixed[gate] && exceeds(way, prices.gains[gate], prices.costs[gate])
     }
-}
 
-// Whether a gate may move and has a surplus to move.
-fn is_seed(way: Way, fixed: bool, gain: u32, cost: u32) -> bool
-    ensures { MatchBool result ((fixed ≡ false) × Excess way gain cost) ((fixed ≡ false → Spent way gain cost)) }
-{
-    !fixed && exceeds(way, gain, cost)
-}
+    // Whether a gate takes a surplus: a fixed one, or one that lacks a surplus.
+    fn is_sink(&self, way: Way, prices: &Prices, gate: usize) -> bool
+        requires { gate < self.now.gates }
+        ensures { MatchBool result (Sink way self.now.fixed.now prices.now.gains prices.now.costs gate) (NoSink way self.now.fixed.now prices.now.gains prices.now.costs gate) }
+    {
+        self.fixed[gate] || exceeds(way.opposite(), prices.gains[gate], prices.costs[gate])
+    }
 
-// Marks 1 the gates that may move and have a surplus to move, and 0 the others. Answers the last of them.
-pub(crate) fn mark_seeds(
-    way: Way,
-    gates: usize,
-    fixed: &[bool],
-    gains: &[u32],
-    costs: &[u32],
-    marks: &mut [u8],
-) -> Option<usize>
-    requires fixed { gates ≤ length fixed.now }
-    requires gains { gates ≤ length gains.now }
-    requires costs { gates ≤ length costs.now }
-    requires marks { gates ≤ length marks.old }
-    ensures seeded { Seeded way gates fixed.now gains.now costs.now marks.old marks.new }
-    ensures found { FirstSeed way gates fixed.now gains.now costs.now result }
-{
-    let mut found = None;
-    for g in 0..gates {
-        if is_seed(way, fixed[g], gains[g], costs[g]) {
-            marks[g] = 1;
-            found = Some(g);
-        } else {
-            marks[g] = 0;
+    // A mark of 1 for each gate that may move and has a surplus to move, and of 0 for the others; none where no gate
+    // has.
+    pub(crate) fn seeds(&self, way: Way, prices: &Prices) -> Option<[u8; 1024]>
+        ensures { MatchOption result (NoSeed way self.now.gates self.now.fixed.now prices.now.gains prices.now.costs) (SomeSeeds way self.now.gates self.now.fixed.now prices.now.gains prices.now.costs) }
+    {
+        let mut marks = [0; 1024];
+        // By number, by which gates are asked: over `iter_mut` it takes one test more, and its proof is longer.
+        for gate in 0..self.gates {
+            if self.is_seed(way, prices, gate) {
+                marks[gate] = 1;
+            }
         }
+        marks.contains(&1).then_some(marks)
     }
-    found
-}
 
-// A marked gate that takes a surplus: a fixed one, or one that lacks a surplus.
-pub(crate) fn find_sink(
-    way: Way,
-    gates: usize,
-    fixed: &[bool],
-    gains: &[u32],
-    costs: &[u32],
-    marks: &[u8],
-) -> Option<usize>
-    requires fixed { gates ≤ length fixed.now }
-    requires gains { gates ≤ length gains.now }
-    requires costs { gates ≤ length costs.now }
-    requires marks { gates ≤ length marks.now }
-    ensures { FirstSink way gates fixed.now gains.now costs.now marks.now result }
-{
-    for g in 0..gates {
-        if marks[g] == 1 && (fixed[g] || lacks(way, gains[g], costs[g])) {
-            return Some(g);
-        }
+    // A marked gate that takes a surplus.
+    pub(crate) fn sink(&self, way: Way, prices: &Prices, marks: &[u8; 1024]) -> Option<usize>
+        ensures { FirstSink way self.now.gates self.now.fixed.now prices.now.gains prices.now.costs marks.now result }
+    {
+        (0..self.gates).find(|gate| marks[*gate] == 1 && self.is_sink(way, prices, *gate))
     }
-    None
 }

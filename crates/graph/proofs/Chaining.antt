@@ -20,19 +20,16 @@ chaining_none g = record {
   linked = record {
     few = omega arith;
     begins = λ v. rw (fresh 8192 v) (λ a h e. omega arith);
-    goes_on = λ i h. elim (none_below i h) [ ];
+    goes_on = λ i h. absurd (omega arith);
   };
   first_long = length-replicate {A = Option ℕ} 8192 None;
   next_long = length-replicate {A = Option ℕ} 32768 None;
 }
-  where
-    none_below : (i : ℕ) → i < 0 → ⊥
-    none_below i h = omega arith
 
 module _ (g : Digraph) (i : ℕ) where
   -- an arc below i + 1 that leaves another node than arc i is below i
   below : (v : ℕ) → (v ≡ g.from i → ⊥) → (a : ℕ) → a < i + 1 → g.from a ≡ v → a < i
-  below v other a h leaves = elim (cases_eq a i) [ inl e ↦ elim (other (subst (λ (j : ℕ). v ≡ g.from j) e (sym leaves))) [ ] | inr ne ↦ omega arith ]
+  below v other a h leaves = elim (cases_eq a i) [ inl e ↦ absurd (other (subst (λ (j : ℕ). v ≡ g.from j) e (sym leaves))) | inr ne ↦ omega arith ]
 
   last_elsewhere : (v : ℕ) (link : Option ℕ) → (v ≡ g.from i → ⊥) → Last g v i link → Last g v (i + 1) link
   last_elsewhere v None other last = λ a h leaves. last a (below v other a h leaves) leaves

@@ -13,11 +13,14 @@ found_from_reached marks closed starts v (begin start) = starts v start
 found_from_reached {g} marks closed starts v (along a arc opens enters back) =
     subst (Found g marks) enters (closed (g.from a) (found_from_reached marks closed starts (g.from a) back) a arc refl opens)
 
-module _ {g : Digraph} {before first last : Front} (started : Started g.nodes before first) (grown : Grown g first last) where
+module _ {g : Digraph} {before first last : Front} {n : ℕ} (nodes : n ≡ g.nodes) (starts : Started n before first) (grown : Grown g first last) where
+  started : Started g.nodes before first
+  started = subst (λ (m : ℕ). Started m before first) nodes starts
+
   start : (u : ℕ) → Marked g first.marks.now u → Marked g before.marks.now u
   start u m = elim (cases_eq (get_or before.marks.now u 0) 0) [ inl clear ↦ (m.0, omega (arith, m.1, started.clear u m.0 clear)) | inr some ↦ (m.0, omega arith) ]
 
-  searched : g.nodes ≤ length before.marks.now → Closed g last.marks.now → Searched g before.marks.now last.marks.now (length last.queue)
+  searched : g.nodes ≤ length before.marks.now → Closed g last.marks.now → Searched g before.marks.now last.marks.now (length last.queue.items)
   searched long closed = record {
     long = long;
     marks = λ v node. elim (cases_eq (get_or last.marks.now v 0) 0) [ inl none ↦ inr (none, λ r. omega (arith, (complete v r).1)) | inr some ↦ inl (one v node some, sound v node some) ];
@@ -37,7 +40,7 @@ module _ {g : Digraph} {before first last : Front} (started : Started g.nodes be
       complete : (v : ℕ) → Reached g (Marked g before.marks.now) v → Found g last.marks.now v
       complete = found_from_reached last.marks.now closed raised
 
-  pub traced : g.nodes ≤ length before.marks.now → g.nodes ≤ length before.hops.now → Closed g last.marks.now → Traced g before.marks.now before.hops.now last.marks.now last.hops.now (length last.queue)
+  pub traced : g.nodes ≤ length before.marks.now → g.nodes ≤ length before.hops.now → Closed g last.marks.now → Traced g before.marks.now before.hops.now last.marks.now last.hops.now (length last.queue.items)
   traced long hops_long closed = record {
     searched = searched long closed;
     long = hops_long;

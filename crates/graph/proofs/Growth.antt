@@ -46,9 +46,9 @@ pub grown_none : {g : Digraph} {front : Front} → Queued g.nodes front → Grow
 grown_none {front = front} queued = record {
   queued = queued;
   spread = record { stays = one_from_pos queued; reached = λ v node some. begin (node, some); kept = λ k past. refl };
-  paced = record { same = λ v node some. refl; entered = λ v node none some. elim (other front.marks.now v v none some refl) [ ]; kept = λ k past. refl };
+  paced = record { same = λ v node some. refl; entered = λ v node none some. absurd (other front.marks.now v v none some refl); kept = λ k past. refl };
   longer = omega arith;
-  front = λ q h. refl;
+  kept = λ q h. refl;
 }
 
 -- node u without a mark, which the open arc a enters from a marked node, has one hop more than that
@@ -63,7 +63,7 @@ module _ {g : Digraph} {u d : ℕ} {front front' : Front} (done : Enqueued u d f
   paced_one : u < length front.hops.now → Paced g front.marks.now front.hops.now front'.marks.now front'.hops.now
   paced_one long = record {
     same = λ v h some. hop_elsewhere done v (other front.marks.now u v clear some);
-    entered = λ v h none some. elim (cases_eq v u) [ inl e ↦ rw e entered | inr ne ↦ elim (other front.marks.now v v none (rw (mark_elsewhere done v ne) at some) refl) [ ] ];
+    entered = λ v h none some. elim (cases_eq v u) [ inl e ↦ rw e entered | inr ne ↦ absurd (other front.marks.now v v none (rw (mark_elsewhere done v ne) at some) refl) ];
     kept = λ k past. hop_elsewhere done k (λ e. omega arith);
   }
     where
@@ -79,7 +79,7 @@ module _ {g : Digraph} {u d : ℕ} {front front' : Front} (done : Enqueued u d f
     spread = spread_one;
     paced = paced_one hops_long;
     longer = omega (arith, longer done);
-    front = place_before done;
+    kept = place_before done;
   }
 
 pub grown_trans : {g : Digraph} {a b c : Front} → Grown g a b → Grown g b c → Grown g a c
@@ -88,5 +88,5 @@ grown_trans one two = record {
   spread = spread_trans one.spread two.spread;
   paced = paced_trans one.spread one.paced two.spread two.paced;
   longer = omega (arith, one.longer, two.longer);
-  front = λ q h. two.front q (omega (arith, one.longer)) ∙ one.front q h;
+  kept = λ q h. two.kept q (omega (arith, one.longer)) ∙ one.kept q h;
 }

@@ -12,26 +12,23 @@ pub record Starting (before : Front) (n : ℕ) (front : Front) : Type 0 where
   pub started : Started n before front
 
 pub same_rows : (front : Front) → SameRows front front
-same_rows front = record { marks = refl; hops = refl; marks_long = refl; hops_long = refl }
+same_rows front = record { nodes = refl; marks = refl; hops = refl; marks_long = refl; hops_long = refl }
 
 pub same_rows_trans : {a b c : Front} → SameRows a b → SameRows b c → SameRows a c
-same_rows_trans one two = record { marks = two.marks ∙ one.marks; hops = two.hops ∙ one.hops; marks_long = two.marks_long ∙ one.marks_long; hops_long = two.hops_long ∙ one.hops_long }
+same_rows_trans one two = record { nodes = two.nodes ∙ one.nodes; marks = two.marks ∙ one.marks; hops = two.hops ∙ one.hops; marks_long = two.marks_long ∙ one.marks_long; hops_long = two.hops_long ∙ one.hops_long }
 
-pub starting_none : (front : Front) → front.queue ≡ [] → Starting front 0 front
+pub starting_none : (front : Front) → front.queue.items ≡ [] → Starting front 0 front
 starting_none front empty = record {
   same = same_rows front;
   queued = queued_none front empty;
   started = record {
-    raised = λ v h. elim (none v h) [ ];
-    clear = λ v h. elim (none v h) [ ];
+    raised = λ v h. absurd (omega arith);
+    clear = λ v h. absurd (omega arith);
     kept = λ k h. refl;
-    hop = λ v h. elim (none v h) [ ];
+    hop = λ v h. absurd (omega arith);
     hops_kept = λ k h. refl;
   };
 }
-  where
-    none : (v : ℕ) → v < 0 → ⊥
-    none v h = omega arith
 
 module _ {before front : Front} {n : ℕ} (old : Starting before n front) where
   -- the mark at the bound is as it was
@@ -51,8 +48,8 @@ module _ {before front : Front} {n : ℕ} (old : Starting before n front) where
     };
   }
 
-  pub starting_more : {front' : Front} → SameRows front front' → Enqueued n 0 front front' → 0 < get_or front.marks.now n 0 → n < length front.marks.now → n < length front.hops.now → Starting before (n + 1) front'
-  starting_more same_rows done some long hops_long = record {
+  pub starting_more : {front' : Front} → SameRows front front' → Enqueued n 0 front front' → 0 < get_or front.marks.now n 0 → n < front.nodes → Starting before (n + 1) front'
+  starting_more same_rows done some node = record {
     same = same_rows_trans old.same same_rows;
     queued = queued_start done old.queued long hops_long;
     started = record {
@@ -63,3 +60,9 @@ module _ {before front : Front} {n : ℕ} (old : Starting before n front) where
       hops_kept = λ k h. hop_elsewhere done k (λ e. omega arith) ∙ old.started.hops_kept k (omega arith);
     };
   }
+    where
+      long : n < length front.marks.now
+      long = omega (arith, front.marks_long)
+
+      hops_long : n < length front.hops.now
+      hops_long = omega (arith, front.hops_long)

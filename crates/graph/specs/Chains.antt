@@ -1,12 +1,11 @@
 -- The arcs that leave one node as a chain, the latest first.
-use Rattle.std.specs.Prelude.{◌≡◌, ℕ, ◌<◌, ◌≤◌, Option, Some, None, slice_index_or}
+use Rattle.std.specs.Prelude.{◌≡◌, ℕ, ◌<◌, ◌≤◌, Option, None, MatchOption, slice_index_or}
 use Rattle.graph.specs.declared.chains.Chains.{Chains}
 use Rattle.graph.specs.Digraph.{Digraph}
 
 -- a link names the last arc below m that leaves v, and none where there is none
 abbrev pub Last : Digraph → ℕ → ℕ → Option ℕ → Type 0
-Last g v m None = (a : ℕ) → a < m → g.from a ≡ v → ⊥
-Last g v m (Some k) = (k < m) × (g.from k ≡ v) × ((a : ℕ) → a < m → g.from a ≡ v → a ≤ k)
+Last g v m link = MatchOption link ((a : ℕ) → a < m → g.from a ≡ v → ⊥) (λ k. (k < m) × (g.from k ≡ v) × ((a : ℕ) → a < m → g.from a ≡ v → a ≤ k))
 
 -- the chains of the arcs below m: where each node's begins, and what comes after each arc
 pub record Linked (g : Digraph) (m : ℕ) (chains : Chains) : Type 0 where

@@ -6,33 +6,28 @@ use Rattle.graph.specs.Reach.{Reached, Marked}
 use Rattle.graph.specs.Sums.{total}
 use Rattle.graph.specs.Trace.{Entered}
 
--- the rows have a place for each of n nodes, and the queue has too
-pub record Room (n : ℕ) (front : Front) : Type 0 where
-  pub few : n ≤ 8192
-  pub marks_long : n ≤ length front.marks.now
-  pub hops_long : n ≤ length front.hops.now
-
--- the rows are the same two, as long as they were
-pub record SameRows (front front' : Front) : Type 0 where
-  pub marks : front'.marks.ghost_name ≡ front.marks.ghost_name
-  pub hops : front'.hops.ghost_name ≡ front.hops.ghost_name
-  pub marks_long : length front'.marks.now ≡ length front.marks.now
-  pub hops_long : length front'.hops.now ≡ length front.hops.now
+-- the rows are the same two, as long as they were, for as many nodes
+pub record SameRows (before after : Front) : Type 0 where
+  pub nodes : after.nodes ≡ before.nodes
+  pub marks : after.marks.ghost_name ≡ before.marks.ghost_name
+  pub hops : after.hops.ghost_name ≡ before.hops.ghost_name
+  pub marks_long : length after.marks.now ≡ length before.marks.now
+  pub hops_long : length after.hops.now ≡ length before.hops.now
 
 -- the queue holds the marked nodes below n, each of them once; no hop passes its node's place
 pub record Queued (n : ℕ) (front : Front) : Type 0 where
   pub bits : (v : ℕ) → v < n → slice_index front.marks.now v ≤ 1
-  pub counted : length front.queue ≡ total (λ v. slice_index front.marks.now v) n
-  pub node : (q : ℕ) → q < length front.queue → slice_index front.queue q < n
-  pub marked : (q : ℕ) → q < length front.queue → slice_index front.marks.now (slice_index front.queue q) ≡ 1
-  pub place : (v : ℕ) → v < n → slice_index front.marks.now v ≡ 1 → (q : ℕ) × (q < length front.queue) × (slice_index front.queue q ≡ v)
-  pub near : (q : ℕ) → q < length front.queue → slice_index front.hops.now (slice_index front.queue q) ≤ q
+  pub counted : length front.queue.items ≡ total (λ v. slice_index front.marks.now v) n
+  pub node : (q : ℕ) → q < length front.queue.items → slice_index front.queue.items q < n
+  pub marked : (q : ℕ) → q < length front.queue.items → slice_index front.marks.now (slice_index front.queue.items q) ≡ 1
+  pub place : (v : ℕ) → v < n → slice_index front.marks.now v ≡ 1 → (q : ℕ) × (q < length front.queue.items) × (slice_index front.queue.items q ≡ v)
+  pub near : (q : ℕ) → q < length front.queue.items → slice_index front.hops.now (slice_index front.queue.items q) ≤ q
 
 -- node v is marked, stands at the end of the queue and has the hop d, and nothing else has changed
-pub record Enqueued (v d : ℕ) (front front' : Front) : Type 0 where
-  pub marks : front'.marks.now ≡ slice_set front.marks.now v 1
-  pub hops : front'.hops.now ≡ slice_set front.hops.now v d
-  pub queue : front'.queue ≡ front.queue ++ v ∷ []
+pub record Enqueued (v d : ℕ) (before after : Front) : Type 0 where
+  pub marks : after.marks.now ≡ slice_set before.marks.now v 1
+  pub hops : after.hops.now ≡ slice_set before.hops.now v d
+  pub queue : after.queue.items ≡ before.queue.items ++ v ∷ []
 
 -- of the first n marks each nonzero one is 1 afterwards, with the hop 0; other marks and the hops from n on are kept
 pub record Started (n : ℕ) (before after : Front) : Type 0 where
@@ -49,9 +44,9 @@ pub record Spread (g : Digraph) (before after : List ℕ) : Type 0 where
   pub kept : (k : ℕ) → g.nodes ≤ k → slice_index after k ≡ slice_index before k
 
 -- marked nodes keep their hops, and each other one that is marked afterwards has one hop more than a node that it is entered from
-pub record Paced (g : Digraph) (before hops after hops' : List ℕ) : Type 0 where
-  pub same : (v : ℕ) → v < g.nodes → 0 < slice_index before v → slice_index hops' v ≡ slice_index hops v
-  pub entered : (v : ℕ) → v < g.nodes → slice_index before v ≡ 0 → 0 < slice_index after v → Entered g after hops' v
+pub record Paced (g : Digraph) (marks hops marks' hops' : List ℕ) : Type 0 where
+  pub same : (v : ℕ) → v < g.nodes → 0 < slice_index marks v → slice_index hops' v ≡ slice_index hops v
+  pub entered : (v : ℕ) → v < g.nodes → slice_index marks v ≡ 0 → 0 < slice_index marks' v → Entered g marks' hops' v
   pub kept : (k : ℕ) → g.nodes ≤ k → slice_index hops' k ≡ slice_index hops k
 
 -- more nodes are marked, with their hops, and the queue holds them behind those before
@@ -59,8 +54,8 @@ pub record Grown (g : Digraph) (before after : Front) : Type 0 where
   pub queued : Queued g.nodes after
   pub spread : Spread g before.marks.now after.marks.now
   pub paced : Paced g before.marks.now before.hops.now after.marks.now after.hops.now
-  pub longer : length before.queue ≤ length after.queue
-  pub front : (q : ℕ) → q < length before.queue → slice_index after.queue q ≡ slice_index before.queue q
+  pub longer : length before.queue.items ≤ length after.queue.items
+  pub kept : (q : ℕ) → q < length before.queue.items → slice_index after.queue.items q ≡ slice_index before.queue.items q
 
 -- v is a node and has the mark 1
 abbrev pub Found : Digraph → List ℕ → ℕ → Type 0

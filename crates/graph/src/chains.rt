@@ -1,11 +1,11 @@
-// The arcs that leave each node as a chain, the latest first: where a node's chain begins, and what comes after each
-// arc. Arrays, since the search takes no allocator. What they say of the graph is no ghost field: that was tried, and
-// the copy of the arrays into a struct that holds the graph too made searches 9 percent slower.
-ghost use Rattle.std.specs.Prelude.{◌≤◌};
+// The arcs that leave each node of a graph as a chain, the latest first.
+ghost use Rattle.std.specs.Prelude.{◌≡◌, ◌≤◌};
+ghost use Rattle.std.proofs.Props.{props};
 ghost use Rattle.graph.specs.Chains.{Linked};
 
 use crate::ask::Graph;
 
+// Where a node's chain begins, and what comes after each arc. Arrays, since the search takes no allocator.
 #[derive(Drop)]
 pub(crate) struct Chains {
     pub(crate) first: [Option<u16>; 8192],
@@ -21,11 +21,20 @@ impl Chains {
             first: [None; 8192],
             next: [None; 32768],
         };
+        // By number, since that is how a graph is asked.
         for arc in 0..graph.arc_count() {
             let (from, _, _) = graph.arc(arc);
-            chains.next[arc] = chains.first[from];
-            chains.first[from] = Some(arc as u16);
+            chains.next[arc] = chains.first[from].replace(arc as u16);
         }
         chains
     }
+}
+
+// A graph beside the chains of its arcs, which are lent: a struct that held the arrays and the graph was tried, and the
+// copy of the arrays into it made searches 9 percent slower.
+#[derive(Drop)]
+pub(crate) struct Arcs<'a, G: Graph> {
+    pub(crate) graph: &'a G,
+    pub(crate) chains: &'a Chains,
+    ghost linked: { Linked (G.shape graph.now) (G.shape graph.now).arcs chains.now } by { Prim.hlevel props },
 }

@@ -15,10 +15,7 @@ impl From<SearchFault> for Refusal {
 
     fn from(fault: SearchFault) -> Refusal {
         match fault {
-            SearchFault::ShortRow => Refusal {
-                number: 41,
-                place: 0,
-            },
+            SearchFault::ShortRow => Refusal::new(41, 0),
         }
     }
 }

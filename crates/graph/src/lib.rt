@@ -4,5 +4,4 @@
 pub mod ask;
 mod chains;
 pub mod fault;
-mod queue;
 pub mod reach;

@@ -16,10 +16,9 @@ impl From<LayerFault> for Refusal {
     ghost from_gives = { λ f r. r ≡ refusal f };
 
     fn from(fault: LayerFault) -> Refusal {
-        let (number, place) = match fault {
-            LayerFault::BadFactor => (21, 0),
-            LayerFault::CountTooLarge(wire) => (22, wire),
-        };
-        Refusal { number, place }
+        match fault {
+            LayerFault::BadFactor => Refusal::new(21, 0),
+            LayerFault::CountTooLarge(wire) => Refusal::new(22, wire),
+        }
     }
 }

@@ -18,6 +18,7 @@ pub fn check<N: Netlist>(net: &N, factor: u32) -> Result<(), LayerFault>
     if !(1..=15).contains(&factor) {
         return Err(LayerFault::BadFactor);
     }
+    // A count times the factor is over 1,048,575 just where the count is over this quotient, rounded down.
     match deep_wire(net, 1_048_575 / factor) {
         Some(k) => Err(LayerFault::CountTooLarge(k)),
         None => Ok(()),

@@ -21,10 +21,7 @@ impl RunFault {
         ensures { result ≡ refusal self }
     {
         match self {
-            RunFault::Drawing(_) => Some(Refusal {
-                number: 45,
-                place: 0,
-            }),
+            RunFault::Drawing(_) => Some(Refusal::new(45, 0)),
             RunFault::Memory => None,
         }
     }

@@ -3,64 +3,46 @@
 // registers needed before and after, and the lags other than 0.
 #![tactic(auto)]
 
-use anyhow::anyhow;
 use drawing::file::open;
+use drawings::{Report, each_drawing};
 use engine::calls::fewest;
 use engine::link::Link;
 use netlist::ask::Netlist;
 use retiming::way::Way;
 use std::alloc::{AllocError, Global};
-use std::fs;
 use wiring::owned::Wiring;
 
 fn main(rt: HostRuntime) -> anyhow::Result<()> {
-    let heap = rt.alloc();
-    for line in rt.lines(heap) {
-        let name = line?;
-        let path = format!(in heap; "{name}.net")?;
-        let bytes = fs::read(&rt, path.as_str())?;
-        let net = open(heap, bytes.as_slice())?;
-        let text = moved(heap, &net)?;
-        println!(rt; "{name}")?;
-        rt.print(text)?;
-    }
-    Ok(())
+    each_drawing(&rt, &Moved { heap: rt.alloc() })
 }
 
-// What the program prints for a netlist.
-fn moved(heap: Global, net: &Wiring) -> anyhow::Result<String> {
-    let links = links_of(heap, net)?;
-    let fixed = pins_of(heap, net)?;
-    let gates = net.gate_count();
-    let mut lags = vec![in heap; 0i32; gates]?;
-    let (before, _) = settled(
-        Way::Forward,
-        links.as_slice(),
-        fixed.as_slice(),
-        lags.as_mut_slice(),
-    )?;
-    let (_, after) = settled(
-        Way::Back,
-        links.as_slice(),
-        fixed.as_slice(),
-        lags.as_mut_slice(),
-    )?;
-    let moves = lag_lines(heap, lags.as_slice())?;
-    Ok(format!(in heap; "regs {before} {after}\n{moves}")?)
+// Says what moving a drawing's registers forward and then back comes to.
+#[derive(Drop)]
+struct Moved {
+    heap: Global,
 }
 
-// One way, for as many gates as there are lags.
-fn settled(
-    way: Way,
-    links: &[Link],
-    fixed: &[bool],
-    lags: &mut [i32],
-) -> anyhow::Result<(u64, u64)> {
-    let gates = lags.len();
-    match fewest(way, gates, links, fixed, lags) {
-        Ok(answer) => Ok(answer),
-        Err(_) => Err(anyhow!("the table is not fit")),
+impl Report for Moved {
+    fn report(&self, bytes: &[u8]) -> anyhow::Result<String> {
+        let heap = self.heap;
+        let net = open(heap, bytes)?;
+        let links = links_of(heap, &net)?;
+        let links = links.as_slice();
+        let gates = net.gate_count();
+        let pins: Vec<bool> = (0..gates).map(|gate| net.is_pinned(gate)).collect(heap)?;
+        let pins = pins.as_slice();
+        let mut lags = vec![in heap; 0i32; gates]?;
+        let (before, _) = fewest(Way::Forward, gates, links, pins, lags.as_mut_slice())?;
+        let (_, after) = fewest(Way::Back, gates, links, pins, lags.as_mut_slice())?;
+        let moves = lag_lines(heap, lags.as_slice())?;
+        Ok(format!(in heap; "regs {before} {after}\n{moves}")?)
     }
+}
+
+fn links_of(heap: Global, net: &Wiring) -> anyhow::Result<Vec<Link>> {
+    (0..net.wire_count())
+        .map(|k| link_of(net, k))
+        .try_collect(heap)
 }
 
 // One wire of the table: under share-all the bundle is the driver.
@@ -76,29 +58,12 @@ fn link_of(net: &Wiring, k: usize) -> anyhow::Result<Link> {
     })
 }
 
-fn links_of(heap: Global, net: &Wiring) -> anyhow::Result<Vec<Link>> {
-    let mut links = Vec::new(heap);
-    for k in 0..net.wire_count() {
-        links.push(link_of(net, k)?)?;
-    }
-    Ok(links)
-}
-
-fn pins_of(heap: Global, net: &Wiring) -> Result<Vec<bool>, AllocError> {
-    let mut pins = Vec::new(heap);
-    for gate in 0..net.gate_count() {
-        pins.push(net.is_pinned(gate))?;
-    }
-    Ok(pins)
-}
-
 // A line for each lag other than 0, gates rising.
 fn lag_lines(heap: Global, lags: &[i32]) -> Result<String, AllocError> {
     let mut text = String::new(heap);
     for (gate, lag) in lags.iter().enumerate() {
         if *lag != 0 {
-            let line = format!(in heap; "lag {gate} {lag}\n")?;
-            text.push_str(line.as_str())?;
+            writeln!(text, "lag {gate} {lag}")?;
         }
     }
     Ok(text)

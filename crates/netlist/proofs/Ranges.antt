@@ -1,5 +1,5 @@
 -- Sums and greatest numbers below a bound, as chains over a range give them.
-use Rattle.std.proofs.Common.{◌≡◌, ℕ, zero, suc, ◌+◌, ◌*◌, ◌≤◌, map, mul-suc, [], max, Bool, true, false, sym, ap, ◌∙◌, add-zero, add-one, refl, zero-add, List, ◌∷◌, arith}
+use Rattle.std.proofs.Common.{◌≡◌, ℕ, zero, suc, ◌+◌, map, [], max, Bool, true, false, sym, ap, ◌∙◌, add-zero, add-one, refl, zero-add, List, ◌∷◌, arith}
 use Rattle.std.proofs.lemmas.List.Sums.{sum_by-cons}
 use Rattle.std.specs.List.{range_with_len, sum_by, filter, fold, reduce}
 use Rattle.std.specs.Option.{unwrap_or}
@@ -17,10 +17,6 @@ module _ (f : ℕ → ℕ) where
 
   pub total_range : (n : ℕ) → sum_by f (range_with_len 0 n) ≡ total f n
   total_range n = omega (arith, total_from 0 n, ap (total f) (zero-add n))
-
-  pub total_under : (m n : ℕ) → ((k : ℕ) → f k ≤ m) → total f n ≤ m * n
-  total_under m zero each = omega arith
-  total_under m (suc n) each = omega (arith, total_under m n each, each n, mul-suc m n)
 
 module _ (p : ℕ → Bool) (f : ℕ → ℕ) where
   abbrev most : ℕ → List ℕ → ℕ

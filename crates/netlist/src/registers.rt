@@ -5,52 +5,51 @@ ghost use Rattle.netlist.specs.Tally.{added, tally_of, together, greatest, share
 use crate::ask::Netlist;
 use crate::rule::{EachAlone, ShareAll, Sharing};
 
-// Whether a wire leaves `driver` under `mark`.
-fn is_together<N: Netlist, S: Sharing>(
-    net: &N,
-    rule: &S,
-    driver: usize,
-    mark: usize,
-    wire: usize,
-) -> bool
-    ensures { result ≡ together (N.meaning net.now) (S.marking rule.now) driver mark wire }
-{
-    let (from, to, _) = net.wire(wire);
-    from == driver && rule.mark(from, to, wire) == mark
+// A netlist under a rule.
+#[derive(Drop)]
+struct Ruled<'a, N: Netlist, S: Sharing> {
+    net: &'a N,
+    rule: &'a S,
 }
 
-// The greatest count among the wires before `wire` that leave `driver` under `mark`.
-fn deepest_before<N: Netlist, S: Sharing>(
-    net: &N,
-    rule: &S,
-    wire: usize,
-    driver: usize,
-    mark: usize,
-) -> u32
-    ensures { result ≡ greatest (together (N.meaning net.now) (S.marking rule.now) driver mark) (N.meaning net.now).count wire }
-{
-    (0..wire)
-        .filter(|k| is_together(net, rule, driver, mark, *k))
-        .map(|k| net.wire(k).2)
-        .max()
-        .unwrap_or(0)
-}
+impl<N: Netlist, S: Sharing> Ruled<'_, N, S> {
+    // Whether a wire leaves `driver` under `mark`.
+    fn is_together(&self, driver: usize, mark: usize, wire: usize) -> bool
+        ensures { result ≡ together (N.meaning self.now.net.now) (S.marking self.now.rule.now) driver mark wire }
+    {
+        let (from, to, _) = self.net.wire(wire);
+        from == driver && self.rule.mark(from, to, wire) == mark
+    }
 
-// The registers that a wire needs beyond those of the earlier wires in its bundle.
-fn added_by<N: Netlist, S: Sharing>(net: &N, rule: &S, wire: usize) -> u32
-    ensures { result ≡ added (N.meaning net.now) (S.marking rule.now) wire }
-{
-    let (driver, driven, count) = net.wire(wire);
-    let mark = rule.mark(driver, driven, wire);
-    count.saturating_sub(deepest_before(net, rule, wire, driver, mark))
+    // The greatest count among the wires before `wire` that leave `driver` under `mark`.
+    fn deepest_before(&self, driver: usize, mark: usize, wire: usize) -> u32
+        ensures { result ≡ greatest (together (N.meaning self.now.net.now) (S.marking self.now.rule.now) driver mark) (N.meaning self.now.net.now).count wire }
+    {
+        // A wire of the bundle is asked for twice: a `filter_map` that asks once was tried, and took a third longer.
+        (0..wire)
+            .filter(|k| self.is_together(driver, mark, *k))
+            .map(|k| self.net.wire(k).2)
+            .max()
+            .unwrap_or(0)
+    }
+
+    // The registers that a wire needs beyond those of the earlier wires in its bundle.
+    fn added_by(&self, wire: usize) -> u32
+        ensures { result ≡ added (N.meaning self.now.net.now) (S.marking self.now.rule.now) wire }
+    {
+        let (driver, driven, count) = self.net.wire(wire);
+        let mark = self.rule.mark(driver, driven, wire);
+        count.saturating_sub(self.deepest_before(driver, mark, wire))
+    }
 }
 
 // The sum over bundles of the greatest count in each.
 pub fn tally<N: Netlist, S: Sharing>(net: &N, rule: &S) -> u64
     ensures { result ≡ tally_of (N.meaning net.now) (S.marking rule.now) }
 {
+    let ruled = Ruled { net, rule };
     (0..net.wire_count())
-        .map(|k| added_by(net, rule, k) as u64)
+        .map(|k| u64::from(ruled.added_by(k)))
         .sum()
 }
 

@@ -17,10 +17,7 @@ impl From<SettleFault> for Refusal {
 
     fn from(fault: SettleFault) -> Refusal {
         match fault {
-            SettleFault::ShortList => Refusal {
-                number: 20,
-                place: 0,
-            },
+            SettleFault::ShortList => Refusal::new(20, 0),
         }
     }
 }
@@ -39,12 +36,11 @@ impl From<WriteFault> for Refusal {
     ghost from_gives = { λ f r. r ≡ write_refusal f };
 
     fn from(fault: WriteFault) -> Refusal {
-        let (number, place) = match fault {
-            WriteFault::ShortRow => (17, 0),
-            WriteFault::CountTooLarge(wire) => (18, wire),
-            WriteFault::LatePin(gate) => (19, gate),
-        };
-        Refusal { number, place }
+        match fault {
+            WriteFault::ShortRow => Refusal::new(17, 0),
+            WriteFault::CountTooLarge(wire) => Refusal::new(18, wire),
+            WriteFault::LatePin(gate) => Refusal::new(19, gate),
+        }
     }
 }
 

@@ -23,6 +23,6 @@ impl Random {
         if n == 0 {
             return 0;
         }
-        ((self.state >> 40) % n as u64) as u16
+        ((self.state >> 40) % u64::from(n)) as u16
     }
 }

@@ -1,7 +1,7 @@
 // Reads a drawing from standard input and prints its listing.
 #![tactic(auto)]
 
-use anyhow::anyhow;
+use anyhow::Context;
 use listing::lines::refused;
 use listing::run::run;
 use std::io::Read;
@@ -28,12 +28,10 @@ fn retime(rt: &HostRuntime) -> anyhow::Result<bool> {
             rt.print(text)?;
             Ok(true)
         }
-        Err(fault) => match fault.refusal() {
-            Some(refusal) => {
-                rt.print(refused(heap, refusal.number)?)?;
-                Ok(false)
-            }
-            None => Err(anyhow!("out of memory")),
-        },
+        Err(fault) => {
+            let refusal = fault.refusal().context("out of memory")?;
+            rt.print(refused(heap, refusal.number)?)?;
+            Ok(false)
+        }
     }
 }

@@ -36,11 +36,11 @@ priced_before : (way : Way) (amount : ℕ → ℕ) (v g c : ℕ) → before way 
 priced_before Forward amount v g c = omega arith
 priced_before Back amount v g c = omega arith
 
-spent_wins : (way : Way) (g c : ℕ) → Spent (opposite way) g c → lost way g c ≤ won way g c
+pub spent_wins : (way : Way) (g c : ℕ) → Spent (opposite way) g c → lost way g c ≤ won way g c
 spent_wins Forward g c h = h
 spent_wins Back g c h = h
 
-excess_wins : (way : Way) (g c : ℕ) → Excess way g c → lost way g c < won way g c
+pub excess_wins : (way : Way) (g c : ℕ) → Excess way g c → lost way g c < won way g c
 excess_wins Forward g c h = h
 excess_wins Back g c h = h
 

@@ -1,108 +1,105 @@
 // What the engine answers, found again by trying all lags in a box around the present ones. Shares no code with it.
-ghost use Rattle.std.specs.Prelude.{◌≡◌, ℕ, ◌<◌, ◌≤◌};
+// Moves and distances are arrays of five: no net has more gates, and the search's inner loop then allocates nothing.
+ghost use Rattle.std.specs.Prelude.{◌<◌};
 
-use crate::net::{Net, count};
-use engine::link::Link;
+use crate::net::Net;
+use retiming::way::Way;
 
-// The moves that are tried for each gate that is not fixed: so many, from the lowest upward.
+// The moves that are tried for each gate that is not fixed: so many, from the lowest upward. Together they are a box.
 #[derive(Clone, Copy)]
-pub struct Moves {
-    pub lowest: i32,
-    pub tried: u64,
+pub(crate) struct Moves {
+    lowest: i32,
+    tried: u64,
+    ghost some: { 0 < tried },
 }
 
 // The fewest registers over a box, and how far each gate has to move at least for as few.
 #[derive(Drop)]
-pub struct Found {
-    pub tally: u64,
-    pub nearest: [u32; 5],
+pub(crate) struct Found {
+    pub(crate) tally: u64,
+    pub(crate) nearest: [u32; 5],
 }
 
-// The registers needed under lags: for each bundle the greatest count. None where a count is below 0.
-pub fn tally(links: &[Link], lags: &[i32]) -> Option<u64> {
-    let mut tops = [0u32; 16];
-    for link in links {
-        let registers = u32::try_from(count(*link, lags)).ok()?;
-        let bundle = link.bundle as usize;
-        if bundle < 16 && tops[bundle] < registers {
-            tops[bundle] = registers;
+impl Moves {
+    // The moves one way, as far as depth.
+    pub(crate) fn one_way(way: Way, depth: u32) -> Moves {
+        let lowest = match way {
+            Way::Forward => 0i32.saturating_sub_unsigned(depth),
+            Way::Back => 0,
+        };
+        Moves {
+            lowest,
+            tried: u64::from(depth) + 1,
         }
     }
-    let mut all = 0u64;
-    for bundle in 0..16 {
-        all = all.saturating_add(u64::from(tops[bundle]));
-    }
-    Some(all)
-}
 
-fn is_free(net: &Net, gate: usize) -> bool {
-    !net.fixed.get(gate).copied().unwrap_or(true)
-}
-
-// How many lags a box has.
-fn places(net: &Net, moves: Moves) -> u64 {
-    let mut all = 1u64;
-    for g in 0..5 {
-        if is_free(net, g) {
-            all = all.saturating_mul(moves.tried);
+    // The moves both ways, as far as 4.
+    pub(crate) fn both_ways() -> Moves {
+        Moves {
+            lowest: -4,
+            tried: 9,
         }
     }
-    all
+
+    // Tries every place of the box.
+    pub(crate) fn search(self, net: &Net) -> Found {
+        let mut found = Found {
+            tally: u64::MAX,
+            nearest: [u32::MAX; 5],
+        };
+        for number in 0..self.places(net) {
+            let moved = self.place(net, number);
+            if let Some(registers) = net.tally(&shifted(net, &moved)) {
+                found.note(registers, &moved);
+            }
+        }
+        found
+    }
+
+    // How many places the box has.
+    fn places(self, net: &Net) -> u64 {
+        net.fixed
+            .iter()
+            .filter(|fixed| !**fixed)
+            .fold(1u64, |all, _| all.saturating_mul(self.tried))
+    }
+
+    // The move of each gate at one place of the box.
+    fn place(self, net: &Net, number: u64) -> [i32; 5] {
+        let mut moved = [0i32; 5];
+        let mut rest = number;
+        for (step, fixed) in moved.iter_mut().zip(net.fixed.iter()) {
+            if !*fixed {
+                *step = self
+                    .lowest
+                    .saturating_add(i32::try_from(rest % self.tried).unwrap_or(0));
+                rest /= self.tried;
+            }
+        }
+        moved
+    }
 }
 
-// The move of each gate at one place of a box.
-fn place(net: &Net, moves: Moves, number: u64) -> [i32; 5] {
-    let mut moved = [0i32; 5];
-    let mut rest = number;
-    for g in 0..5 {
-        if moves.tried > 0 && is_free(net, g) {
-            moved[g] = moves
-                .lowest
-                .saturating_add(i32::try_from(rest % moves.tried).unwrap_or(0));
-            rest = rest / moves.tried;
+impl Found {
+    // Takes lags with a tally into account.
+    fn note(&mut self, tally: u64, moved: &[i32; 5]) {
+        if tally < self.tally {
+            self.tally = tally;
+            self.nearest = [u32::MAX; 5];
+        }
+        if tally == self.tally {
+            for (nearest, step) in self.nearest.iter_mut().zip(moved.iter()) {
+                *nearest = step.unsigned_abs().min(*nearest);
+            }
         }
     }
-    moved
 }
 
 // The net's lags after the moves.
 fn shifted(net: &Net, moved: &[i32; 5]) -> [i32; 5] {
-    let mut after = [0i32; 5];
-    for g in 0..5 {
-        after[g] = net
-            .lags
-            .get(g)
-            .copied()
-            .unwrap_or(0)
-            .saturating_add(moved[g]);
+    let mut lags = *moved;
+    for (lag, before) in lags.iter_mut().zip(net.lags.iter()) {
+        *lag = before.saturating_add(*lag);
     }
-    after
-}
-
-// Takes lags with a tally into account.
-fn note(found: &mut Found, tally: u64, moved: &[i32; 5]) {
-    if tally < found.tally {
-        found.tally = tally;
-        found.nearest = [u32::MAX; 5];
-    }
-    if tally == found.tally {
-        for g in 0..5 {
-            found.nearest[g] = found.nearest[g].min(moved[g].unsigned_abs());
-        }
-    }
-}
-
-// Tries every place of a box.
-pub fn search(net: &Net, moves: Moves) -> Found {
-    let mut found = Found {
-        tally: u64::MAX,
-        nearest: [u32::MAX; 5],
-    };
-    for number in 0..places(net, moves) {
-        let moved = place(net, moves, number);
-        if let Some(registers) = tally(net.links.as_slice(), &shifted(net, &moved)) {
-            note(&mut found, registers, &moved);
-        }
-    }
-    found
+    lags
 }

@@ -5,35 +5,43 @@ mod exhaust;
 mod net;
 mod witness;
 
-use anyhow::anyhow;
 use engine::calls::{decide, fewest};
-use exhaust::{Found, Moves, search, tally};
-use net::{Net, Rule, random_net};
+use exhaust::{Found, Moves};
+use net::{Net, Rule};
 use random::Random;
 use retiming::way::Way;
 use std::alloc::Global;
-use witness::{Rows, is_witness};
+use witness::Rows;
 
 const NETS: u32 = 3000;
 
 fn main(rt: HostRuntime) -> anyhow::Result<()> {
     let heap = rt.alloc();
+    try_all(&rt, "forward", |net| agrees(heap, &net, Way::Forward))?;
+    try_all(&rt, "back", |net| agrees(heap, &net, Way::Back))?;
+    try_all(&rt, "decide", |net| decides(heap, &net))?;
+    try_all(
+        &rt,
+        "no fewer after forward and back",
+        |net| certifies(heap, net),
+    )
+}
+
+// Tests one thing on each of the nets, which are the same at each call, and prints on how many it holds.
+fn try_all<F: Fn(Net) -> anyhow::Result<bool>>(
+    rt: &(impl Print + AllocGlobal),
+    name: &str,
+    holds: F,
+) -> anyhow::Result<()>
+    requires { F.IsAlwaysCallable holds }
+{
     let mut random = Random { state: 20_261_118 };
-    let mut forward = 0u32;
-    let mut back = 0u32;
-    let mut right = 0u32;
-    let mut least = 0u32;
+    let mut agreed = 0u32;
     for k in 0..NETS {
-        let net = random_net(heap, &mut random, rule_of(k))?;
-        forward = forward.saturating_add(u32::from(agrees(heap, &net, Way::Forward)?));
-        back = back.saturating_add(u32::from(agrees(heap, &net, Way::Back)?));
-        right = right.saturating_add(u32::from(decides(heap, &net)?));
-        least = least.saturating_add(u32::from(certifies(&settled(heap, net)?)?));
+        let net = Net::random(rt.alloc(), &mut random, rule_of(k))?;
+        agreed = agreed.saturating_add(u32::from(holds(net)?));
     }
-    println!(rt; "forward: {forward} of {NETS} agree")?;
-    println!(rt; "back: {back} of {NETS} agree")?;
-    println!(rt; "decide: {right} of {NETS} agree")?;
-    println!(rt; "no fewer after forward and back: {least} of {NETS} agree")?;
+    println!(rt; "{name}: {agreed} of {NETS} agree")?;
     Ok(())
 }
 
@@ -45,148 +53,127 @@ fn rule_of(k: u32) -> Rule {
     }
 }
 
-// The lags that the engine leaves one way from others, and the registers needed before and after.
-fn moved(heap: Global, net: &Net, way: Way, from: &[i32]) -> anyhow::Result<(Vec<i32>, u64, u64)> {
-    let mut lags = from.to_vec(heap)?;
-    match fewest(
+// The lags that the engine leaves one way, and the registers needed before and after.
+#[derive(Drop)]
+struct Moved {
+    lags: Vec<i32>,
+    before: u64,
+    after: u64,
+}
+
+fn move_lags(heap: Global, net: &Net, way: Way) -> anyhow::Result<Moved> {
+    let mut lags = net.lags.as_slice().to_vec(heap)?;
+    let (before, after) = fewest(
         way,
-        net.gates as usize,
+        net.fixed.len(),
         net.links.as_slice(),
         net.fixed.as_slice(),
         lags.as_mut_slice(),
-    ) {
-        Ok((before, after)) => Ok((lags, before, after)),
-        Err(_) => Err(anyhow!("the table is not fit")),
-    }
+    )?;
+    Ok(Moved {
+        lags,
+        before,
+        after,
+    })
 }
 
 // Whether the engine leaves, one way, the fewest registers and the nearest lags of a box that holds its own answer.
 fn agrees(heap: Global, net: &Net, way: Way) -> anyhow::Result<bool> {
-    let (lags, before, after) = moved(heap, net, way, net.lags.as_slice())?;
-    let depth = farthest(net.lags.as_slice(), lags.as_slice())
-        .max(3)
-        .saturating_add(1);
-    let found = search(net, moves_of(way, depth));
+    let moved = move_lags(heap, net, way)?;
+    let depth = farthest(net.lags.as_slice(), moved.lags.as_slice());
+    let found = Moves::one_way(way, depth.max(3).saturating_add(1)).search(net);
     Ok(
-        needed(net) == Some(before)
-            && found.tally == after
-            && is_nearest(net, way, lags.as_slice(), &found),
+        net.needed() == Some(moved.before)
+            && found.tally == moved.after
+            && is_nearest(net, way, moved.lags.as_slice(), &found),
     )
 }
 
-fn needed(net: &Net) -> Option<u64> {
-    tally(net.links.as_slice(), net.lags.as_slice())
-}
-
 // The greatest distance between two lags of a gate.
-fn farthest(from: &[i32], to: &[i32]) -> i32 {
-    let mut most = 0i32;
-    for (a, b) in from.iter().zip(to.iter()) {
-        most = most.max(a.saturating_sub(*b)).max(b.saturating_sub(*a));
-    }
-    most
-}
-
-fn moves_of(way: Way, depth: i32) -> Moves {
-    let lowest = match way {
-        Way::Forward => 0i32.saturating_sub(depth),
-        Way::Back => 0,
-    };
-    Moves {
-        lowest,
-        tried: u64::try_from(depth).unwrap_or(0).saturating_add(1),
-    }
+fn farthest(from: &[i32], to: &[i32]) -> u32 {
+    from.iter()
+        .zip(to.iter())
+        .map(|(a, b)| a.abs_diff(*b))
+        .max()
+        .unwrap_or(0)
 }
 
 // Whether each lag is as far from the net's, one way, as was found.
 fn is_nearest(net: &Net, way: Way, lags: &[i32], found: &Found) -> bool {
-    for (g, lag) in lags.iter().enumerate() {
-        let from = net.lags.get(g).copied().unwrap_or(0);
-        let distance = match way {
-            Way::Forward => from.saturating_sub(*lag),
-            Way::Back => lag.saturating_sub(from),
-        };
-        if u32::try_from(distance).ok() != found.nearest.get(g).copied() {
-            return false;
-        }
-    }
-    true
+    net.lags
+        .iter()
+        .zip(lags.iter())
+        .zip(found.nearest.iter())
+        .all(|((from, to), nearest)| u32::try_from(distance(way, *from, *to)) == Ok(*nearest))
 }
 
-// The net with the lags that forward and then back leave.
-fn settled(heap: Global, net: Net) -> anyhow::Result<Net> {
-    let (forward, _, _) = moved(heap, &net, Way::Forward, net.lags.as_slice())?;
-    let (back, _, _) = moved(heap, &net, Way::Back, forward.as_slice())?;
-    let Net {
-        gates,
-        links,
-        fixed,
-        lags: _,
-    } = net;
-    Ok(Net {
-        gates,
-        links,
-        fixed,
-        lags: back,
-    })
+// How far it is from a lag to another, one way.
+fn distance(way: Way, from: i32, to: i32) -> i32 {
+    match way {
+        Way::Forward => from.saturating_sub(to),
+        Way::Back => to.saturating_sub(from),
+    }
 }
 
 // What the engine decides, with the rows that it leaves.
-fn decided(net: &Net) -> anyhow::Result<(bool, Rows)> {
-    let mut rows = Rows {
-        shares: [9; 8],
-        flows: [9; 8],
-    };
-    let gates = net.gates as usize;
-    match decide(
-        gates,
+struct Decided {
+    answer: bool,
+    rows: Rows,
+}
+
+const UNWRITTEN: Rows = Rows {
+    shares: [9; 8],
+    flows: [9; 8],
+};
+
+fn decide_net(net: &Net) -> anyhow::Result<Decided> {
+    let mut rows = UNWRITTEN;
+    let answer = decide(
+        net.fixed.len(),
         net.links.as_slice(),
         net.fixed.as_slice(),
         net.lags.as_slice(),
         &mut rows.shares,
         &mut rows.flows,
-    ) {
-        Ok(answer) => Ok((answer, rows)),
-        Err(_) => Err(anyhow!("the table is not fit, or has more than eight wires")),
-    }
+    )?;
+    Ok(Decided { answer, rows })
 }
 
 // Whether the engine decides as the box of lags within four of the present ones says. Where it says that some lags
 // need fewer and the box has none, forward or back must find some.
 fn decides(heap: Global, net: &Net) -> anyhow::Result<bool> {
-    let (answer, rows) = decided(net)?;
+    let Decided { answer, rows } = decide_net(net)?;
     if answer {
-        return Ok(is_least(net) && is_witness(net, &rows));
+        return Ok(is_least(net) && rows.is_witness(net));
     }
-    let kept = rows.shares == [9; 8] && rows.flows == [9; 8];
     Ok(
-        kept && (!is_least(net)
-            || finds_fewer(heap, net, Way::Forward)?
-            || finds_fewer(heap, net, Way::Back)?),
+        rows == UNWRITTEN
+            && (!is_least(net)
+                || finds_fewer(heap, net, Way::Forward)?
+                || finds_fewer(heap, net, Way::Back)?),
     )
 }
 
-// Whether the engine says that no lags need fewer, with a witness.
-fn certifies(net: &Net) -> anyhow::Result<bool> {
-    let (answer, rows) = decided(net)?;
-    Ok(answer && is_least(net) && is_witness(net, &rows))
-}
-
 fn is_least(net: &Net) -> bool {
-    needed(net)
-        == Some(
-            search(
-                net,
-                Moves {
-                    lowest: -4,
-                    tried: 9,
-                },
-            )
-            .tally,
-        )
+    net.needed() == Some(Moves::both_ways().search(net).tally)
 }
 
 fn finds_fewer(heap: Global, net: &Net, way: Way) -> anyhow::Result<bool> {
-    let (_, before, after) = moved(heap, net, way, net.lags.as_slice())?;
-    Ok(after < before)
+    let moved = move_lags(heap, net, way)?;
+    Ok(moved.after < moved.before)
+}
+
+// Whether, of the net that forward and then back have moved, the engine says that no lags need fewer, with a witness, and
+// no lags within four of the net's do.
+fn certifies(heap: Global, net: Net) -> anyhow::Result<bool> {
+    let net = with_lags_moved(heap, net, Way::Forward)?;
+    let net = with_lags_moved(heap, net, Way::Back)?;
+    let Decided { answer, rows } = decide_net(&net)?;
+    Ok(answer && is_least(&net) && rows.is_witness(&net))
+}
+
+// The net with the lags that the engine leaves one way.
+fn with_lags_moved(heap: Global, net: Net, way: Way) -> anyhow::Result<Net> {
+    let Moved { lags, .. } = move_lags(heap, &net, way)?;
+    Ok(Net { lags, ..net })
 }

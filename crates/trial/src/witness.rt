@@ -1,87 +1,70 @@
 // The rules of a witness, tested one by one.
-use crate::net::{Net, count};
+ghost use Rattle.std.specs.Prelude.{◌≤◌, length};
+
+use crate::net::Net;
 use engine::link::Link;
 
-#[derive(Drop)]
-pub struct Rows {
-    pub shares: [u16; 8],
-    pub flows: [u16; 8],
+// The shares and the flows of the wires of a net, of which there are at most eight.
+#[derive(Clone, Copy, PartialEq)]
+pub(crate) struct Rows {
+    pub(crate) shares: [u16; 8],
+    pub(crate) flows: [u16; 8],
 }
 
-// Whether rows of shares and flows show that no permitted lags need fewer registers than the net's.
-pub fn is_witness(net: &Net, rows: &Rows) -> bool {
-    let links = net.links.as_slice();
-    for (k, link) in links.iter().enumerate() {
-        if !has_one_share(links, rows, *link)
-            || !is_deepest(net, rows, k, *link)
-            || !is_dry(net, rows, k, *link)
-        {
-            return false;
-        }
+impl Rows {
+    // Whether the rows show that no permitted lags need fewer registers than the net's.
+    pub(crate) fn is_witness(&self, net: &Net) -> bool {
+        net.links
+            .iter()
+            .zip(self.shares.iter())
+            .zip(self.flows.iter())
+            .all(|((link, share), flow)| {
+                self.has_one_share(net, link)
+                    && (*share == 0 || is_deepest(net, link))
+                    && (*flow == 0 || *flow <= 4096 && net.count(link) == 0)
+            })
+            && net
+                .fixed
+                .iter()
+                .enumerate()
+                .all(|(gate, fixed)| *fixed || self.surplus(net, gate) == 0)
     }
-    for gate in 0..net.gates {
-        if !net.fixed.get(gate as usize).copied().unwrap_or(true)
-            && surplus(links, rows, gate) != 0
-        {
-            return false;
-        }
+
+    // Whether the shares in the bundle of a wire are one 1 and else 0.
+    fn has_one_share(&self, net: &Net, link: &Link) -> bool {
+        sum_at(&self.shares, net, |other| is_bundled(link, other)) == 1
     }
-    true
+
+    // Shares in less shares out, less flow in, plus flow out.
+    fn surplus(&self, net: &Net, gate: usize) -> i64 {
+        let shares_in = sum_at(&self.shares, net, |link| usize::from(link.driven) == gate);
+        let shares_out = sum_at(&self.shares, net, |link| usize::from(link.driver) == gate);
+        let flow_in = sum_at(&self.flows, net, |link| usize::from(link.driven) == gate);
+        let flow_out = sum_at(&self.flows, net, |link| usize::from(link.driver) == gate);
+        i64::from(shares_in) - i64::from(shares_out) - i64::from(flow_in) + i64::from(flow_out)
+    }
 }
 
-fn entry(row: &[u16], k: usize) -> u16 {
-    row.get(k).copied().unwrap_or(0)
+// The sum of a row over the wires that a test picks.
+fn sum_at<F: Fn(&Link) -> bool>(row: &[u16], net: &Net, picks: F) -> u32
+    requires few { length row.now ≤ 8 }
+    requires safe { (f : _) (x : _) → F.pre f x }
+{
+    row.iter()
+        .zip(net.links.iter())
+        .filter(|(_, link)| picks(link))
+        .map(|(entry, _)| u32::from(*entry))
+        .sum()
 }
 
-fn is_bundled(a: Link, b: Link) -> bool {
+fn is_bundled(a: &Link, b: &Link) -> bool {
     a.driver == b.driver && a.bundle == b.bundle
 }
 
-// Whether the shares in the bundle of a wire are one 1 and else 0.
-fn has_one_share(links: &[Link], rows: &Rows, link: Link) -> bool {
-    let mut shares = 0u32;
-    for (j, other) in links.iter().enumerate() {
-        if is_bundled(link, *other) {
-            shares = shares.saturating_add(u32::from(entry(&rows.shares, j)));
-        }
-    }
-    shares == 1
-}
-
-// Whether no wire of the bundle has a greater count than a wire with a share.
-fn is_deepest(net: &Net, rows: &Rows, k: usize, link: Link) -> bool {
-    let registers = count(link, net.lags.as_slice());
-    for other in net.links.as_slice() {
-        if entry(&rows.shares, k) > 0
-            && is_bundled(link, *other)
-            && count(*other, net.lags.as_slice()) > registers
-        {
-            return false;
-        }
-    }
-    true
-}
-
-// Whether the flow of a wire is at most 4,096, and 0 where the wire has registers.
-fn is_dry(net: &Net, rows: &Rows, k: usize, link: Link) -> bool {
-    let flow = entry(&rows.flows, k);
-    flow == 0 || flow <= 4096 && count(link, net.lags.as_slice()) == 0
-}
-
-// Shares in less shares out, less flow in, plus flow out.
-fn surplus(links: &[Link], rows: &Rows, gate: u16) -> i32 {
-    let mut all = 0i32;
-    for (k, link) in links.iter().enumerate() {
-        let weight = i32::from(entry(&rows.shares, k)).saturating_sub(i32::from(entry(
-            &rows.flows,
-            k,
-        )));
-        if link.driven == gate {
-            all = all.saturating_add(weight);
-        }
-        if link.driver == gate {
-            all = all.saturating_sub(weight);
-        }
-    }
-    all
+// Whether no wire of the bundle has a greater count than this one.
+fn is_deepest(net: &Net, link: &Link) -> bool {
+    net.links
+        .iter()
+        .filter(|other| is_bundled(link, other))
+        .all(|other| net.count(other) <= net.count(link))
 }

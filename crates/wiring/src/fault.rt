@@ -25,14 +25,13 @@ impl From<CheckFault> for Refusal {
     ghost from_gives = { λ f r. r ≡ refusal f };
 
     fn from(fault: CheckFault) -> Refusal {
-        let (number, place) = match fault {
-            CheckFault::ShortFile => (11, 0),
-            CheckFault::TooLarge => (12, 0),
-            CheckFault::WrongLength => (13, 0),
-            CheckFault::NoGate(wire) => (14, wire),
-            CheckFault::CountTooLarge(wire) => (15, wire),
-            CheckFault::FreeRound(wire) => (16, wire),
-        };
-        Refusal { number, place }
+        match fault {
+            CheckFault::ShortFile => Refusal::new(11, 0),
+            CheckFault::TooLarge => Refusal::new(12, 0),
+            CheckFault::WrongLength => Refusal::new(13, 0),
+            CheckFault::NoGate(wire) => Refusal::new(14, wire),
+            CheckFault::CountTooLarge(wire) => Refusal::new(15, wire),
+            CheckFault::FreeRound(wire) => Refusal::new(16, wire),
+        }
     }
 }

@@ -1,4 +1,5 @@
-// A list of wires lent by the caller, as a netlist: its check, and its opening.
+// A list of wires lent by the caller, as a netlist: its check, and its opening. By a rule of the project such a list
+// comes with its sizes, the numbers of gates and of pins, beside it.
 ghost use Rattle.std.specs.Prelude.{IfOk, MatchResult};
 ghost use Rattle.wiring.specs.List.{Passes, Fails, Opens};
 ghost use Rattle.wiring.specs.Wiring.{wiring_net};

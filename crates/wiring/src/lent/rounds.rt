@@ -59,6 +59,7 @@ impl Wires<'_> {
         if self.rises() {
             return None;
         }
+        // By a rule of the project wires are tried from 0 upward in a labelled loop, which is left at the first on a round.
         let mut found = None;
         'wires: for (k, wire) in self.list.iter().enumerate() {
             if wire.count > 0 {

@@ -1,5 +1,5 @@
 use Rattle.engine.proofs.Owning.{Owned}
 use Rattle.engine.proofs.check.has_one_driver.Given as goal
 
-abbrev pub invariant-loop-k : goal.invariant-loop-k
-invariant-loop-k l = Owned l.links l.owners l.k
+abbrev pub invariant-loop-link : goal.invariant-loop-link
+invariant-loop-link l = Owned l.links l.owners l.link-index

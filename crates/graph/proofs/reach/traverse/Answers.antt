@@ -5,6 +5,5 @@ use Rattle.graph.proofs.reach.traverse.Goals as goal
 
 pub returns : goal.returns
 returns g c =
-    let started = rw c.node_count-nodes.ensures.value at c.start.ensures.started in
-    let done = traced started c.spread.ensures.grown c.requires.marks c.requires.hops c.spread.ensures.closed in
+    let done = traced c.node_count-nodes.ensures.value c.start.ensures.started c.spread.ensures.grown c.requires.marks c.requires.hops c.spread.ensures.closed in
     search (rules, done)

@@ -1,10 +1,12 @@
-use Rattle.std.proofs.Common.{◌<◌, ◌^◌, ap, ◌∙◌, arith, rules}
+use Rattle.std.proofs.Common.{◌<◌, ◌^◌, get_or, ap, ◌∙◌, arith, rules}
 use Rattle.std.specs.List.{range_with_len, sum_by}
 use Rattle.std.proofs.lemmas.Iterator.{YieldsList-from_range, YieldsList-from_map}
 use Rattle.std.proofs.lemmas.Iterator.Consumers.{sum_by_from_yields_List, fits_by_from_yields_list}
+use Rattle.std.proofs.lemmas.List.Sums.{sum_by-le}
+use Rattle.std.proofs.lemmas.List.FromFn.{length-range_with_len}
 use Rattle.graph.specs.Sums.{total}
 use Rattle.netlist.specs.Tally.{added}
-use Rattle.netlist.proofs.Ranges.{total_range, total_under}
+use Rattle.netlist.proofs.Ranges.{total_range}
 use Rattle.netlist.proofs.Tallies.{added_all}
 use Rattle.netlist.proofs.registers.tally.Goals as goal
 
@@ -15,9 +17,10 @@ sum-requires-clause-fits g c =
     let mark = g.S.Sharing.marking c.args.rule.now in
     let wires = c.wire_count.result in
     let range = YieldsList-from_range 0 wires wires c.map.ensures.source (omega arith) in
-    let under = total_under (added net mark) 1048575 wires (λ k. omega (arith, laws.counts c.args.net.now k)) in
-    let small : sum_by (added net mark) (range_with_len 0 wires) < 2 ^ 64 = omega (arith, total_range (added net mark) wires, under, c.wire_count.ensures, laws.few_wires c.args.net.now) in
-    fits_by_from_yields_list (added net mark) (range_with_len 0 wires) c.map.result (2 ^ 64) (YieldsList-from_map _ (added net mark) range c.map.ensures.closure (λ x r q k. search rules)) small
+    let each = range_with_len 0 wires in
+    let under = sum_by-le (added net mark) 1048575 each (λ k d h. omega (arith, laws.counts c.args.net.now (get_or each k d))) in
+    let small : sum_by (added net mark) each < 2 ^ 64 = omega (arith, under, length-range_with_len 0 wires, c.wire_count.ensures, laws.few_wires c.args.net.now) in
+    fits_by_from_yields_list (added net mark) each c.map.result (2 ^ 64) (YieldsList-from_map _ (added net mark) range c.map.ensures.closure (λ x r q k. search rules)) small
 
 pub returns : goal.returns
 returns g c =

@@ -4,7 +4,7 @@ use Rattle.graph.proofs.Walks.{Visiting}
 use Rattle.graph.proofs.reach.Front.spread.Given as goal
 
 abbrev pub invariant-loop-v : goal.invariant-loop-v
-invariant-loop-v g l = Visiting (g.G.Graph.shape l.graph) l.initial.self l.self l.head
+invariant-loop-v g l = Visiting (g.G.Graph.shape l.arcs.graph.now) l.initial.self l.self l.head
 
 abbrev pub decreases-loop-v : goal.decreases-loop-v
-decreases-loop-v g l = (g.G.Graph.shape l.graph).nodes - l.head
+decreases-loop-v g l = (g.G.Graph.shape l.arcs.graph.now).nodes - l.head

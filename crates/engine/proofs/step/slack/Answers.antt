@@ -1,9 +1,0 @@
-use Rattle.std.proofs.Common.{arith}
-use Rattle.engine.proofs.Slacks.{slack_more}
-use Rattle.engine.proofs.step.slack.Goals as goal
-
-pub loop-k-preserved : goal.loop-k-preserved
-loop-k-preserved c =
-    let old = c.loop-k.invariant in
-    let all = slack_more c.args.way c.args.links.now c.args.depths.now c.args.holders.now c.args.marks.now c.loop-k.least c.slack_at.result c.loop-k.k old.2 c.slack_at.ensures.slack in
-    rw c.min-least.ensures (omega (arith, old.0, c.slack_at.ensures.some), omega (arith, old.1), all)

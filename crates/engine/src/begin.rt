@@ -1,0 +1,85 @@
+// The rows to begin with at given lags, each filled in one pass over the wires, and the registers that the lags need.
+// The lags are the caller's row, which moving them changes, so what is known of them stands in clauses and in no type.
+ghost use Rattle.std.specs.Prelude.{◌≡◌, ℕ, ◌+◌, ◌<◌, ◌≤◌, List, length, ℤ, pos, ◌+ℤ◌, ◌-ℤ◌, slice_index, slice_index_or, unsigned_abs};
+ghost use Rattle.engine.specs.Rows.{Depths, Holding};
+ghost use Rattle.engine.specs.State.{needs_of};
+ghost use Rattle.engine.specs.Table.{Standing};
+
+use crate::link::Link;
+use crate::rows::Rows;
+use crate::table::Table;
+
+impl Link {
+    // The count of a wire under lags, which may be below 0.
+    pub(crate) fn lagged(self, lags: &[i32]) -> i32
+        requires count { self.count ≤ 1048575 }
+        requires driver { self.driver < length lags.now }
+        requires driven { self.driven < length lags.now }
+        requires driver_near { unsigned_abs (slice_index_or lags.now self.driver (pos 0)) ≤ 1048575 }
+        requires driven_near { unsigned_abs (slice_index_or lags.now self.driven (pos 0)) ≤ 1048575 }
+        ensures { result ≡ ((pos self.count +ℤ slice_index_or lags.now self.driven (pos 0)) -ℤ slice_index_or lags.now self.driver (pos 0)) }
+    {
+        self.count as i32 + lags[self.driven as usize] - lags[self.driver as usize]
+    }
+}
+
+impl Table<'_> {
+    // The counts under lags.
+    pub(crate) fn depths(&self, lags: &[i32]) -> [u32; 4096]
+        requires { Standing self.now.gates self.now.links.now lags.now }
+        ensures { Depths self.now.gates self.now.links.now lags.now result }
+    {
+        let mut depths = [0; 4096];
+        for (k, link) in self.links.iter().enumerate() {
+            depths[k] = link.lagged(lags) as u32;
+        }
+        depths
+    }
+
+    // For each bundle its first wire with the greatest count. A holder that is no wire of the bundle stands for none.
+    fn holders(&self, depths: &[u32; 4096]) -> [u16; 4096]
+        ensures { (row : List ℕ) → length self.now.links.now ≤ length row → ((k : ℕ) → k < length self.now.links.now → slice_index row k ≡ 0) → Holding self.now.links.now depths.now result row }
+    {
+        let mut holders = [0; 4096];
+        for (k, link) in self.links.iter().enumerate() {
+            let bundle = link.bundle as usize;
+            let holder = holders[bundle] as usize;
+            if self.links[holder].bundle != link.bundle || depths[holder] < depths[k] {
+                holders[bundle] = k as u16;
+            }
+        }
+        holders
+    }
+}
+
+impl<'a> Rows<'a> {
+    // The counts under the lags, with shares to go by them and no flow yet.
+    pub(crate) fn begin(table: &Table<'a>, lags: &[i32]) -> Rows<'a>
+        requires { Standing table.now.gates table.now.links.now lags.now }
+        ensures table { result.table ≡ table.now }
+        ensures depths { Depths table.now.gates table.now.links.now lags.now result.depths }
+    {
+        let depths = table.depths(lags);
+        let holders = table.holders(&depths);
+        let flows = [0; 4096];
+        Rows {
+            table: *table,
+            depths,
+            holders,
+            flows,
+        }
+    }
+
+    // The registers that the lags need: the counts of the wires that hold a share, added.
+    pub(crate) fn needed(&self) -> u64
+        ensures { (lags : List ℤ) → Depths self.now.table.gates self.now.table.links.now lags self.now.depths → result ≡ needs_of self.now.table.gates self.now.table.links.now lags }
+    {
+        let mut sum = 0;
+        for (k, link) in self.table.links.iter().enumerate() {
+            if self.holders[link.bundle as usize] as usize == k {
+                sum += u64::from(self.depths[k]);
+            }
+        }
+        sum
+    }
+}
