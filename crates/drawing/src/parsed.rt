@@ -10,8 +10,8 @@ pub(crate) struct Sizes {
     pub(crate) wires: usize,
 }
 
-// The gates, the pins and the wires of a file. The check takes no allocator, so the wires stand in a vector that has
-// room for the most and lies in place.
+// The gates, the pins and the wires of a file. The check takes no allocator, so the wires stand in a vector of
+// fixed capacity.
 #[derive(Drop)]
 pub(crate) struct Parsed {
     pub(crate) gates: usize,

@@ -36,7 +36,8 @@ impl Table<'_> {
         depths
     }
 
-    // For each bundle its first wire with the greatest count. A holder that is no wire of the bundle stands for none.
+    // For each bundle its first wire with the greatest count. Until the bundle has one, what stands in its place is told by
+    // that wire's own bundle, so that the row needs no `Option`, which each reader would have to take apart.
     fn holders(&self, depths: &[u32; 4096]) -> [u16; 4096]
         ensures { (row : List ℕ) → length self.now.links.now ≤ length row → ((k : ℕ) → k < length self.now.links.now → slice_index row k ≡ 0) → Holding self.now.links.now depths.now result row }
     {

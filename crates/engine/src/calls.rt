@@ -24,7 +24,7 @@ pub fn fewest(
 }
 
 // Decides, at unchanged lags, whether any permitted lags at all need fewer registers. If none do, it answers true and
-// writes the witness: a share and a flow for each wire.
+// writes the witness: a share and a flow for each wire, into lent rows of 16-bit numbers by a rule of the project.
 pub fn decide(
     gates: usize,
     links: &[Link],

@@ -11,6 +11,7 @@ use crate::walk::Trail;
 use graph::reach::trace;
 use retiming::way::Way;
 
+// The way comes beside the rows, since both ways are asked of one set of rows.
 impl Rows<'_> {
     // Each gate to which open arcs lead from the marked gates, and how many arcs it took.
     fn follow(&self, way: Way, seeds: [u8; 1024]) -> Trail

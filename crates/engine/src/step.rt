@@ -21,7 +21,7 @@ fn is_beyond(way: Way, mark: u8) -> bool
     }
 }
 
-// Twice the greatest tally: no set can move so far.
+// Twice the greatest tally: no set can move so far, so a wire that sets no limit may answer it.
 const FAR: u32 = 2_097_152;
 
 // A lag that is near 0, moved.
@@ -44,7 +44,7 @@ fn move_lags(way: Way, gates: usize, by: u32, marks: &[u8; 1024], lags: &mut [i3
     requires by { by ≤ 2097152 }
     ensures { (g : ℕ) → lags_of lags.new g ≡ pushed_by way (only_on (inside gates marks.now) by) (lags_of lags.old) g }
 {
-    // By number: a loop over the front alone leaves the proof to join it to the lags past the gates.
+    // By number: it was tried over `iter_mut` of the front, and the proof has to join that to the lags past the gates.
     for g in 0..gates {
         if marks[g] == 1 {
             lags[g] = pushed(way, by, lags[g]);
@@ -81,6 +81,7 @@ impl Rows<'_> {
         ensures slack { Slack way self.now.table.links.now self.now.depths self.now.holders marks.now result }
     {
         let mut least = FAR;
+        // A `for`: as `map` and `min` it was tried, and the proof that each wire has such a slack did not close.
         for k in 0..self.table.links.len() {
             least = least.min(self.slack_at(way, marks, k));
         }

@@ -37,6 +37,7 @@ impl Trail {
         requires some { (a : ℕ) × LastArc (leftover_of graph.now) self.now.marks self.now.hops v a }
         ensures { LastArc (leftover_of graph.now) self.now.marks self.now.hops v result }
     {
+        // A `for`: as `find` and `unwrap` it was tried, and the proof did not close.
         for a in 0..graph.arc_count() {
             if self.is_last_arc(graph, v, a) {
                 return a;
@@ -78,6 +79,7 @@ impl Rows<'_> {
         ensures carried { Carried way self.old.table.gates self.old.table.links.now self.old.holders self.old.flows self.new.holders self.new.flows result target }
     {
         let mut v = target;
+        // No count: it goes from gate to gate.
         while trail.hops[v] > 0 {
             v = self.step_back(way, trail, v);
         }

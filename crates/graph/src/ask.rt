@@ -15,7 +15,7 @@ pub trait Graph {
         ensures value { result ≡ (shape self.now).arcs }
         ensures bound { result ≤ 32768 };
 
-    // From-node, to-node and whether the arc is open; past the last arc 0, 0 and shut.
+    // From-node, to-node and whether the arc is open; past the last arc 0, 0 and shut. A tuple, by a rule of the project.
     fn arc(&self, a: usize) -> (usize, usize, bool)
         ensures within { a < (shape self.now).arcs → Arc (shape self.now) a result.0 result.1 result.2 }
         ensures past { (shape self.now).arcs ≤ a → result ≡ (0, 0, false) };

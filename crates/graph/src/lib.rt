@@ -1,4 +1,5 @@
-// Directed graphs told by questions, and the one search over them.
+// Directed graphs told by questions, and the one search over them. Places in lists are made from 16-bit numbers by
+// `as usize`, in which nothing can be lost.
 #![tactic(auto)]
 
 pub mod ask;

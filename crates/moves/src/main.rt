@@ -11,6 +11,7 @@ use netlist::ask::Netlist;
 use retiming::way::Way;
 use std::alloc::{AllocError, Global};
 use wiring::owned::Wiring;
+use wiring::wire::Wire;
 
 fn main(rt: HostRuntime) -> anyhow::Result<()> {
     each_drawing(&rt, &Moved { heap: rt.alloc() })
@@ -26,7 +27,9 @@ impl Report for Moved {
     fn report(&self, bytes: &[u8]) -> anyhow::Result<String> {
         let heap = self.heap;
         let net = open(heap, bytes)?;
-        let links = links_of(heap, &net)?;
+        let links: Vec<Link> = (0..net.wire_count())
+            .map(|k| link_of(&net, k))
+            .collect(heap)?;
         let links = links.as_slice();
         let gates = net.gate_count();
         let pins: Vec<bool> = (0..gates).map(|gate| net.is_pinned(gate)).collect(heap)?;
@@ -39,23 +42,19 @@ impl Report for Moved {
     }
 }
 
-fn links_of(heap: Global, net: &Wiring) -> anyhow::Result<Vec<Link>> {
-    (0..net.wire_count())
-        .map(|k| link_of(net, k))
-        .try_collect(heap)
-}
-
 // One wire of the table: under share-all the bundle is the driver.
-fn link_of(net: &Wiring, k: usize) -> anyhow::Result<Link> {
-    let (driver, driven, count) = net.wire(k);
-    let driver = u16::try_from(driver)?;
-    let driven = u16::try_from(driven)?;
-    Ok(Link {
+fn link_of(net: &Wiring, k: usize) -> Link {
+    let Wire {
+        driver,
+        driven,
+        count,
+    } = Wire::of(net, k);
+    Link {
         driver,
         driven,
         count,
         bundle: driver,
-    })
+    }
 }
 
 // A line for each lag other than 0, gates rising.

@@ -17,7 +17,8 @@ pub trait Netlist: Graph {
     fn is_pinned(&self, gate: usize) -> bool
         ensures { result ≡ (meaning self.now).pinned gate };
 
-    // Driver, driven gate and count of a wire. The graph's arcs are the wires, open where the count is 0.
+    // Driver, driven gate and count of a wire: a tuple, by a rule of the project. The graph's arcs are the wires, open
+    // where the count is 0.
     fn wire(&self, k: usize) -> (usize, usize, u32)
         ensures value { result ≡ ((meaning self.now).driver k, (meaning self.now).driven k, (meaning self.now).count k) }
         ensures arcs { Self.Graph.shape self.now ≡ graph_of (meaning self.now) };

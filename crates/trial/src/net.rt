@@ -13,6 +13,7 @@ pub(crate) enum Rule {
     Mixed,
 }
 
+// Lists side by side, as the engine is lent them.
 #[derive(Drop)]
 pub(crate) struct Net {
     pub(crate) links: Vec<Link>,
