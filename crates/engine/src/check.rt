@@ -1,4 +1,5 @@
-// The check of a table: what the engine is given may be anything.
+// The check of a table: what the engine is given may be anything. What is known of the lags stands in
+// clauses, since they are the caller's row.
 ghost use Rattle.std.specs.Prelude.{◌≡◌, ◌+◌, ◌<◌, ◌≤◌, length, EachIndex, IsTrue, ◌↔◌, MatchOption, unsigned_abs};
 ghost use Rattle.engine.specs.Fit.{Sized, AllSized, OneDriver, Near, Stands, Fit};
 ghost use Rattle.engine.specs.State.{Within};

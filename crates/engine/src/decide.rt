@@ -1,4 +1,5 @@
 // Whether any permitted lags at all need fewer registers, and the witness that none do.
+// What is known of the lags stands in clauses, since they are the caller's row.
 ghost use Rattle.std.specs.Prelude.{◌≡◌, ℕ, ◌<◌, ◌≤◌, length, MatchOption, slice_index};
 ghost use Rattle.netlist.specs.Lags.{under};
 ghost use Rattle.retiming.specs.Witness.{Witness};

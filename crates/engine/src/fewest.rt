@@ -1,4 +1,5 @@
-// The fewest registers one way, from the present lags.
+// The fewest registers one way, from the present lags. What is known of the lags stands in
+// clauses, since they are the caller's row.
 ghost use Rattle.std.specs.Prelude.{◌≡◌, ℕ, ◌<◌, ◌≤◌, length};
 ghost use Rattle.netlist.specs.Lags.{under};
 ghost use Rattle.retiming.specs.Nearest.{Nearest};

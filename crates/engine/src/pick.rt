@@ -1,5 +1,5 @@
-// Which gates have a surplus to move, and which take one. The way comes beside the prices, since a sink is asked for by
-// the opposite one.
+// Which gates have a surplus to move, and which take one. The way comes beside the prices, which are the same for both.
+// Marks are an array, since the engine takes no allocator.
 ghost use Rattle.std.specs.Prelude.{◌<◌, MatchBool, MatchOption};
 ghost use Rattle.retiming.specs.Tied.{Excess, Spent};
 ghost use Rattle.engine.specs.Pick.{Seed, Idle, Sink, NoSink, NoSeed, SomeSeeds, FirstSink};
@@ -41,7 +41,7 @@ impl Table<'_> {
         ensures { MatchOption result (NoSeed way self.now.gates self.now.fixed.now prices.now.gains prices.now.costs) (SomeSeeds way self.now.gates self.now.fixed.now prices.now.gains prices.now.costs) }
     {
         let mut marks = [0; 1024];
-        // By number, by which gates are asked: over `iter_mut` it takes one test more, and its proof is longer.
+        // By number, by which gates are asked: over `iter_mut` it was tried, with one test more and a longer proof.
         for gate in 0..self.gates {
             if self.is_seed(way, prices, gate) {
                 marks[gate] = 1;

@@ -4,7 +4,8 @@ ghost use Rattle.engine.specs.Rows.{Priced};
 
 use crate::rows::Rows;
 
-// Two rows and not one of pairs, since the same step adds a share at one end of a wire and a flow at the other to either.
+// Arrays, since the engine takes no allocator. Two rows and not one of pairs, since the same step adds a share at one end
+// of a wire and a flow at the other to either.
 #[derive(Drop)]
 pub(crate) struct Prices {
     pub(crate) gains: [u32; 1024],

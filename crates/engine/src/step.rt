@@ -1,5 +1,5 @@
 // A long step: how far a set of stuck gates can move as one, and the move. A set is its marks. The way comes beside
-// them and not in one value with them, since a round is asked for a way before there is a set.
+// them: in one value with them it would have to be shown in each clause to be the way of the round.
 ghost use Rattle.std.specs.Prelude.{◌≡◌, ℕ, ◌+◌, ◌<◌, ◌≤◌, List, ℤ, length, unsigned_abs};
 ghost use Rattle.retiming.specs.Push.{push, pushed_by, only_on};
 ghost use Rattle.engine.specs.OfRows.{StateOf};
@@ -44,7 +44,7 @@ fn move_lags(way: Way, gates: usize, by: u32, marks: &[u8; 1024], lags: &mut [i3
     requires by { by ≤ 2097152 }
     ensures { (g : ℕ) → lags_of lags.new g ≡ pushed_by way (only_on (inside gates marks.now) by) (lags_of lags.old) g }
 {
-    // By number: it was tried over `iter_mut` of the front, and the proof has to join that to the lags past the gates.
+    // By number: over `iter_mut` of the front it was tried, and the proof did not close for the lags past the gates.
     for g in 0..gates {
         if marks[g] == 1 {
             lags[g] = pushed(way, by, lags[g]);

@@ -1,4 +1,5 @@
-// The engine's table, checked: so many gates, the wires between them, and for each gate whether it is fixed.
+// The engine's table, checked: so many gates, the wires between them, and for each gate whether it is fixed. Its lists
+// are the caller's.
 ghost use Rattle.std.specs.Prelude.{◌≤◌, length};
 ghost use Rattle.engine.specs.Table.{Tabled};
 

@@ -11,7 +11,8 @@ use crate::rows::Rows;
 use graph::ask::Graph;
 use retiming::way::Way;
 
-// Where a search came to: a mark of 1 for each gate, and over how many arcs. Two rows, since the search is lent two.
+// Where a search came to: a mark of 1 for each gate, and over how many arcs. Two arrays, since
+// the search is lent two rows, and the engine takes no allocator.
 #[derive(Drop)]
 pub(crate) struct Trail {
     pub(crate) marks: [u8; 1024],

@@ -13,7 +13,7 @@ use arrayvec::ArrayVec;
 
 // Marks 1 every node to which open arcs lead from a node with a nonzero mark, such a node included, and 0
 // every other node. Marks past the last node are kept. Answers how many nodes are marked. By a rule of the project the
-// marks are a lent row of bytes.
+// marks are a lent row of bytes, and so, for `trace`, are the hops a lent row.
 pub fn search<G: Graph>(graph: &G, marks: &mut [u8]) -> Result<usize, SearchFault>
     ensures { MatchResult result (λ n. Searched (G.shape graph.now) marks.old marks.new n) (λ f. Refused (G.shape graph.now) marks.old marks.new f) }
 {
@@ -58,7 +58,8 @@ fn traverse<G: Graph>(graph: &G, marks: &mut [u8], hops: &mut [u16]) -> usize
 }
 
 // What the search has found so far: the rows of marks and hops, which may be longer than there are nodes, and the queue
-// of the marked nodes. That the queue holds
+// of the marked nodes. That a call keeps the rows themselves and their lengths is a clause of it: it speaks of two
+// values. That the queue holds
 // just those stands in clauses and in no ghost field: it is not so between the write of a mark and the push.
 #[derive(Drop)]
 struct Front<'a> {

@@ -4,7 +4,7 @@ ghost use Rattle.std.specs.Prelude.{◌≤◌, length};
 use crate::net::Net;
 use engine::link::Link;
 
-// The shares and the flows of the wires of a net, of which there are at most eight.
+// The shares and the flows of the wires of a net, of which there are at most eight: arrays, as a constant needs them.
 #[derive(Clone, Copy, PartialEq)]
 pub(crate) struct Rows {
     pub(crate) shares: [u16; 8],

@@ -1,5 +1,5 @@
 // The check of a list of wires: ends, counts and rounds, each from the first wire to the last. By a rule of the
-// project the records are looked at by a `for` over the lent list with its index.
+// project the records are looked at by a `for` over the lent list with its index, and their sizes come beside the list.
 ghost use Rattle.std.specs.Prelude.{ℕ, ◌≤◌, Bool, length, MatchResult};
 ghost use Rattle.wiring.specs.Check.{Finds, Stray, Deep, WiresPass, WiresFail};
 ghost use Rattle.wiring.specs.List.{Passes, Fails};

@@ -1,4 +1,4 @@
-// Rounds of wires without a register: by levels of gates where they can be found, and else by a search from each wire.
+// Rounds of wires without a register, in arrays, since the check takes no allocator: by levels of gates where they can be found, and else by a search from each wire.
 ghost use Rattle.std.specs.Prelude.{◌≡◌, ◌<◌, true, false, length, MatchBool};
 ghost use Rattle.graph.specs.Reach.{Leads};
 ghost use Rattle.netlist.specs.Net.{OnFreeRound};
