@@ -75,7 +75,7 @@ impl<'a> Table<'a> {
         requires near { Near self.now.gates lags.now }
         ensures { IsTrue result ↔ Stands self.now.gates self.now.links.now lags.now }
     {
-        // A `for`: tried as `all`, the closure knows no bound on the ends of a wire.
+        // A `for`: as `all` it was tried, and the check found no bound on the ends of a wire in the closure.
         for link in self.links {
             if link.lagged(lags) < 0 {
                 return false;

@@ -44,7 +44,7 @@ fn move_lags(way: Way, gates: usize, by: u32, marks: &[u8; 1024], lags: &mut [i3
     requires by { by ≤ 2097152 }
     ensures { (g : ℕ) → lags_of lags.new g ≡ pushed_by way (only_on (inside gates marks.now) by) (lags_of lags.old) g }
 {
-    // By number: over `iter_mut` of the front it was tried, and the proof did not close for the lags past the gates.
+    // By number: over `iter_mut` of the front it is no plainer, since its proof has to join that to the lags past it.
     for g in 0..gates {
         if marks[g] == 1 {
             lags[g] = pushed(way, by, lags[g]);
@@ -81,7 +81,7 @@ impl Rows<'_> {
         ensures slack { Slack way self.now.table.links.now self.now.depths self.now.holders marks.now result }
     {
         let mut least = FAR;
-        // A `for`: as `map` and `min` it was tried, and the proof that each wire has such a slack did not close.
+        // A `for`: as `map` and `min` it was tried, and the check did not find that each wire has such a slack.
         for k in 0..self.table.links.len() {
             least = least.min(self.slack_at(way, marks, k));
         }

@@ -38,13 +38,9 @@ impl Trail {
         requires some { (a : ℕ) × LastArc (leftover_of graph.now) self.now.marks self.now.hops v a }
         ensures { LastArc (leftover_of graph.now) self.now.marks self.now.hops v result }
     {
-        // A `for`: as `find` and `unwrap` it was tried, and the proof did not close.
-        for a in 0..graph.arc_count() {
-            if self.is_last_arc(graph, v, a) {
-                return a;
-            }
-        }
-        unreachable!()
+        (0..graph.arc_count())
+            .find(|a| self.is_last_arc(graph, v, *a))
+            .unwrap()
     }
 }
 
