@@ -92,7 +92,7 @@ module _ (way : Way) (gates : ℕ) (links : List Link) (fixed : List Bool) (firs
     pub still_standing : gates ≤ length lags' → Within gates links 1048575 first → Standing gates links lags'
     still_standing long near = record { long = long; near = λ g h. omega (arith, still_within 1048575 near g h); counts = pushed.permitted.counts }
 
-    state_after : (depths' : List ℕ) → Standing gates links lags' → Depths gates links lags' depths' → State way gates links fixed first lags' depths' holders row
+    pub state_after : (depths' : List ℕ) → Standing gates links lags' → Depths gates links lags' depths' → State way gates links fixed first lags' depths' holders row
     state_after depths' standing deeps = record {
       standing = standing;
       depths_are = deeps;

@@ -17,14 +17,14 @@ use Rattle.engine.proofs.Certified.{holding_certificate}
 use Rattle.engine.proofs.Closing.{slack_one}
 
 module _ (gates : ℕ) (links : List Link) (fixed : List Bool) (lags : List ℤ) (depths holders row : List ℕ) (tabled : Tabled gates links) (standing : Standing gates links lags) (deeps : Depths gates links lags depths) (holding : Holding links depths holders row) where
-  witness_from : AllDone Forward gates links fixed holders row → AllDone Back gates links fixed holders row → Witness (under (table gates links) (lags_of lags)) (bundles links) (fixed_of fixed) (shares links holders) (flows row)
+  pub witness_from : AllDone Forward gates links fixed holders row → AllDone Back gates links fixed holders row → Witness (under (table gates links) (lags_of lags)) (bundles links) (fixed_of fixed) (shares links holders) (flows row)
   witness_from one two = record {
     certificate = holding_certificate gates links lags depths holders row tabled deeps holding;
     small = holding.small;
     balanced = λ g h free. omega (arith, one g h free, two g h free);
   }
 
-  better_from : (way : Way) → Improves way gates links fixed depths holders row → Better gates links fixed lags lags
+  pub better_from : (way : Way) → Improves way gates links fixed depths holders row → Better gates links fixed lags lags
   better_from way found =
       better way gates links fixed lags lags depths holders row found.0 1 tabled (state_first way gates links fixed lags depths holders row tabled standing deeps holding) found.1 (omega arith)
       (slack_one way gates links fixed depths holders row found.0 tabled holding found.1)

@@ -1,7 +1,7 @@
 -- Wires that hold the share of their bundle.
 use Rattle.std.proofs.Common.{◌≡◌, ℕ, ◌<◌, true, eqb, List, length, get_or, set, ap, ◌∙◌, inl, inr, arith}
 use Rattle.std.proofs.lemmas.List.{get_or-set_same, get_or-set_other}
-use Rattle.std.proofs.lemmas.Bool.{cases_eq, and_from, eq-eqb, ne_eqb, cond-true, cond-false}
+use Rattle.std.proofs.lemmas.Bool.{cases_eq, and_parts, and_from, eqb-true, eq-eqb, ne_eqb, cond-true, cond-false}
 use Rattle.retiming.specs.Witness.{bundled}
 use Rattle.engine.specs.declared.link.Link.{Link}
 use Rattle.engine.specs.Rows.{deep, holder, shares, Holding}
@@ -30,6 +30,9 @@ holder_else links holders k i other = get_or-set_other holders (get_or links k n
 -- wires of one number are a bundle
 pub fellows : (gates : ℕ) (links : List Link) (depths : List ℕ) → Tabled gates links → (j k : ℕ) → j < length links → k < length links → (get_or links j no_link).bundle ≡ (get_or links k no_link).bundle → bundled (deep gates links depths) (bundles links) k j ≡ true
 fellows gates links depths tabled j k hj hk same = and_from _ _ (eq-eqb _ _ (tabled.one_driver j k hj hk same)) (eq-eqb _ _ same)
+
+pub same_number : (gates : ℕ) (links : List Link) (depths : List ℕ) (j k : ℕ) → bundled (deep gates links depths) (bundles links) k j ≡ true → (get_or links j no_link).bundle ≡ (get_or links k no_link).bundle
+same_number gates links depths j k fellow = eqb-true (get_or links j no_link).bundle (get_or links k no_link).bundle (and_parts (eqb (get_or links j no_link).driver (get_or links k no_link).driver) _ fellow).1
 
 pub holder_shares : (links : List Link) (depths holders row : List ℕ) → Holding links depths holders row → (k : ℕ) → k < length links → shares links holders (holder links holders k) ≡ 1
 holder_shares links depths holders row holding k h = share_one links holders (holder links holders k) (one_holder links holders (holder links holders k) k (holding.same_bundle k h))

@@ -1,7 +1,6 @@
 -- Shares and flows added at the ends of wires, one wire at a time.
-use Rattle.std.proofs.Common.{◌≡◌, ℕ, ◌+◌, ◌*◌, ◌<◌, ◌≤◌, cond, eqb, List, length, get_or, replicate, subst, add-one, arith}
+use Rattle.std.proofs.Common.{◌≡◌, ℕ, ◌+◌, ◌*◌, ◌<◌, ◌≤◌, cond, eqb, List, length, get_or, subst, add-one, arith}
 use Rattle.std.proofs.lemmas.Bool.{cond_both}
-use Rattle.std.proofs.lemmas.List.{get_or-replicate, length-replicate}
 use Rattle.graph.specs.Sums.{total}
 use Rattle.engine.specs.declared.link.Link.{Link}
 use Rattle.engine.specs.Rows.{shares, flows, Priced}
@@ -14,11 +13,8 @@ pub record Summed (share_end flow_end share flow : ℕ → ℕ) (gates k : ℕ) 
   pub few : (g : ℕ) → g < gates → get_or row g 0 ≤ 65536 * k
 
 module _ (share_end flow_end share flow : ℕ → ℕ) (gates : ℕ) where
-  pub summed_none : (n : ℕ) → gates ≤ n → Summed share_end flow_end share flow gates 0 (replicate n 0)
-  summed_none n long = record { long = omega (arith, length-replicate {A = ℕ} n 0); are = zero; few = λ g h. omega (arith, zero g h) }
-    where
-      zero : (g : ℕ) → g < gates → ◌≡◌ {A = ℕ} (get_or (replicate n 0) g 0) 0
-      zero g h = get_or-replicate {A = ℕ} n g 0 0 (omega arith)
+  pub summed_none : (row : List ℕ) → gates ≤ length row → ((g : ℕ) → g < gates → get_or row g 0 ≡ 0) → Summed share_end flow_end share flow gates 0 row
+  summed_none row long clear = record { long = long; are = clear; few = λ g h. omega (arith, clear g h) }
 
   pub summed_more : (k : ℕ) (row new : List ℕ) → length new ≡ length row → share k ≤ 1 → flow k ≤ 65535
       → ((g : ℕ) → get_or new g 0 ≡ get_or row g 0 + cond (eqb (share_end k) g) (share k) 0 + cond (eqb (flow_end k) g) (flow k) 0)
@@ -44,8 +40,11 @@ pub record Added (gates : ℕ) (links : List Link) (holders row : List ℕ) (k :
   pub spent : Summed (driver_of links) (driven_of links) (shares links holders) (flows row) gates k costs
 
 module _ (gates : ℕ) (links : List Link) (holders row : List ℕ) where
-  pub added_none : (n : ℕ) → gates ≤ n → Added gates links holders row 0 (replicate n 0) (replicate n 0)
-  added_none n long = record { gained = summed_none _ _ _ _ gates n long; spent = summed_none _ _ _ _ gates n long }
+  pub added_none : (gains costs : List ℕ) → gates ≤ length gains → gates ≤ length costs → ((g : ℕ) → g < gates → get_or gains g 0 ≡ 0) → ((g : ℕ) → g < gates → get_or costs g 0 ≡ 0) → Added gates links holders row 0 gains costs
+  added_none gains costs long_gains long_costs no_gains no_costs = record {
+    gained = summed_none _ _ _ _ gates gains long_gains no_gains;
+    spent = summed_none _ _ _ _ gates costs long_costs no_costs;
+  }
 
   -- wire k, whose share is the bit
   pub added_more : (k bit : ℕ) (gains costs gains' costs' : List ℕ) → bit ≡ shares links holders k → bit ≤ 1 → flows row k ≤ 65535 → length gains' ≡ length gains → length costs' ≡ length costs

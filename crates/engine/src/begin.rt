@@ -24,21 +24,19 @@ impl Link {
 }
 
 impl Table<'_> {
-    // The counts under lags.
-    pub(crate) fn depths(&self, lags: &[i32]) -> [u32; 4096]
+    // Reads the counts under lags, in place: a step reads them anew, and a row of its own would be cleared and copied.
+    pub(crate) fn read_depths(&self, lags: &[i32], depths: &mut [u32; 4096])
         requires { Standing self.now.gates self.now.links.now lags.now }
-        ensures { Depths self.now.gates self.now.links.now lags.now result }
+        ensures { Depths self.now.gates self.now.links.now lags.now depths.new }
     {
-        let mut depths = [0; 4096];
         for (k, link) in self.links.iter().enumerate() {
             depths[k] = link.lagged(lags) as u32;
         }
-        depths
     }
 
     // For each bundle its first wire with the greatest count. Until the bundle has one, what stands in its place is told by
     // that wire's own bundle, so that the row needs no `Option`, which each reader would have to take apart.
-    fn holders(&self, depths: &[u32; 4096]) -> [u16; 4096]
+    pub(crate) fn holders(&self, depths: &[u32; 4096]) -> [u16; 4096]
         ensures { (row : List ℕ) → length self.now.links.now ≤ length row → ((k : ℕ) → k < length self.now.links.now → slice_index row k ≡ 0) → Holding self.now.links.now depths.now result row }
     {
         let mut holders = [0; 4096];
@@ -51,6 +49,20 @@ impl Table<'_> {
         }
         holders
     }
+
+    // The registers that lags need: the counts under them of the wires that hold a share, added. The two rows are lent, and
+    // not `Rows`, since the check of the lags needs no more.
+    pub(crate) fn needed(&self, depths: &[u32; 4096], holders: &[u16; 4096]) -> u64
+        ensures { (lags : List ℤ) (row : List ℕ) → Depths self.now.gates self.now.links.now lags depths.now → Holding self.now.links.now depths.now holders.now row → result ≡ needs_of self.now.gates self.now.links.now lags }
+    {
+        let mut sum = 0;
+        for (k, link) in self.links.iter().enumerate() {
+            if holders[link.bundle as usize] as usize == k {
+                sum += u64::from(depths[k]);
+            }
+        }
+        sum
+    }
 }
 
 impl<'a> Rows<'a> {
@@ -60,7 +72,8 @@ impl<'a> Rows<'a> {
         ensures table { result.table ≡ table.now }
         ensures depths { Depths table.now.gates table.now.links.now lags.now result.depths }
     {
-        let depths = table.depths(lags);
+        let mut depths = [0; 4096];
+        table.read_depths(lags, &mut depths);
         let holders = table.holders(&depths);
         let flows = [0; 4096];
         Rows {
@@ -69,18 +82,5 @@ impl<'a> Rows<'a> {
             holders,
             flows,
         }
-    }
-
-    // The registers that the lags need: the counts of the wires that hold a share, added.
-    pub(crate) fn needed(&self) -> u64
-        ensures { (lags : List ℤ) → Depths self.now.table.gates self.now.table.links.now lags self.now.depths → result ≡ needs_of self.now.table.gates self.now.table.links.now lags }
-    {
-        let mut sum = 0;
-        for (k, link) in self.table.links.iter().enumerate() {
-            if self.holders[link.bundle as usize] as usize == k {
-                sum += u64::from(self.depths[k]);
-            }
-        }
-        sum
     }
 }

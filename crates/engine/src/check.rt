@@ -6,7 +6,6 @@ ghost use Rattle.engine.specs.State.{Within};
 ghost use Rattle.engine.specs.Table.{lags_of, Tabled, Standing};
 
 use crate::link::Link;
-use crate::rows::Rows;
 use crate::table::Table;
 
 impl Link {
@@ -89,7 +88,10 @@ impl<'a> Table<'a> {
         requires { Standing self.now.gates self.now.links.now lags.now }
         ensures { IsTrue result ↔ Within self.now.gates self.now.links.now 1048575 lags.now }
     {
-        are_within(Rows::begin(self, lags).needed(), &lags[..self.gates])
+        let mut depths = [0; 4096];
+        self.read_depths(lags, &mut depths);
+        let holders = self.holders(&depths);
+        are_within(self.needed(&depths, &holders), &lags[..self.gates])
     }
 
     // The table, where it and the lags are fit for the engine.

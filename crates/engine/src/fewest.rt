@@ -22,8 +22,8 @@ impl Table<'_> {
         ensures within { (bound : ℕ) → Within self.now.gates self.now.links.now bound lags.old → Within self.now.gates self.now.links.now bound lags.new }
     {
         let mut rows = Rows::begin(self, lags);
-        let before = rows.needed();
+        let before = self.needed(&rows.depths, &rows.holders);
         rows.settle(way, lags);
-        (before, rows.needed())
+        (before, self.needed(&rows.depths, &rows.holders))
     }
 }

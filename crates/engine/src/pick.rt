@@ -1,6 +1,6 @@
 // Which gates have a surplus to move, and which take one. The way comes beside the prices, which are the same for both.
 // Marks are an array, since the engine takes no allocator.
-ghost use Rattle.std.specs.Prelude.{◌<◌, MatchBool, MatchOption};
+ghost use Rattle.std.specs.Prelude.{◌<◌, MatchBool};
 ghost use Rattle.retiming.specs.Tied.{Excess, Spent};
 ghost use Rattle.engine.specs.Pick.{Seed, Idle, Sink, NoSink, NoSeed, SomeSeeds, FirstSink};
 
@@ -35,19 +35,22 @@ impl Table<'_> {
         self.fixed[gate] || exceeds(way.opposite(), prices.gains[gate], prices.costs[gate])
     }
 
-    // A mark of 1 for each gate that may move and has a surplus to move, and of 0 for the others; none where no gate
-    // has.
-    pub(crate) fn seeds(&self, way: Way, prices: &Prices) -> Option<[u8; 1024]>
-        ensures { MatchOption result (NoSeed way self.now.gates self.now.fixed.now prices.now.gains prices.now.costs) (SomeSeeds way self.now.gates self.now.fixed.now prices.now.gains prices.now.costs) }
+    // Marks 1 each gate that may move and has a surplus to move, and 0 the others. Answers whether there is one. The marks
+    // are lent, since an `Option` of them would be copied in each round.
+    pub(crate) fn mark_seeds(&self, way: Way, prices: &Prices, marks: &mut [u8; 1024]) -> bool
+        ensures { MatchBool result (SomeSeeds way self.now.gates self.now.fixed.now prices.now.gains prices.now.costs marks.new) (NoSeed way self.now.gates self.now.fixed.now prices.now.gains prices.now.costs) }
     {
-        let mut marks = [0; 1024];
+        let mut some = false;
         // By number, by which gates are asked: over `iter_mut` it was tried, with one test more and a longer proof.
         for gate in 0..self.gates {
             if self.is_seed(way, prices, gate) {
                 marks[gate] = 1;
+                some = true;
+            } else {
+                marks[gate] = 0;
             }
         }
-        marks.contains(&1).then_some(marks)
+        some
     }
 
     // A marked gate that takes a surplus.

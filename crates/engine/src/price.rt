@@ -34,17 +34,18 @@ fn share(holder: u16, wire: usize) -> u32
 }
 
 impl Rows<'_> {
-    pub(crate) fn prices(&self) -> Prices
-        ensures { Priced self.now.table.gates self.now.table.links.now self.now.holders self.now.flows result.gains result.costs }
+    // Adds the shares and flows of all wires to prices of 0. They are lent, since each round prices anew, and two rows that
+    // are answered would be copied.
+    pub(crate) fn price(&self, prices: &mut Prices)
+        requires gains { (g : ℕ) → g < self.now.table.gates → slice_index prices.old.gains g ≡ 0 }
+        requires costs { (g : ℕ) → g < self.now.table.gates → slice_index prices.old.costs g ≡ 0 }
+        ensures { Priced self.now.table.gates self.now.table.links.now self.now.holders self.now.flows prices.new.gains prices.new.costs }
     {
-        let mut gains = [0; 1024];
-        let mut costs = [0; 1024];
         for (k, link) in self.table.links.iter().enumerate() {
             let bit = share(self.holders[link.bundle as usize], k);
             let flow = self.flows[k];
-            add(&mut gains, link.driven, bit, link.driver, flow);
-            add(&mut costs, link.driver, bit, link.driven, flow);
+            add(&mut prices.gains, link.driven, bit, link.driver, flow);
+            add(&mut prices.costs, link.driver, bit, link.driven, flow);
         }
-        Prices { gains, costs }
     }
 }

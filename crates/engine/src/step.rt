@@ -100,6 +100,7 @@ impl Rows<'_> {
     {
         let by = self.slack(way, marks);
         move_lags(way, self.table.gates, by, marks, lags);
-        self.depths = self.table.depths(lags);
+        let table = self.table;
+        table.read_depths(lags, &mut self.depths);
     }
 }

@@ -129,13 +129,13 @@ impl<'a> Front<'a> {
         ensures left { Left (G.shape arcs.now.graph.now) self.new.marks.now v }
     {
         let hop = self.hops[v] + 1;
-        let mut link = arcs.chains.first[v];
+        let mut link = arcs.chains.latest(v);
         while let Some(arc) = link {
             let (_, to, open) = arcs.graph.arc(arc as usize);
             if open && self.marks[to] == 0 {
                 self.enqueue(to, hop);
             }
-            link = arcs.chains.next[arc as usize];
+            link = arcs.chains.before(arc as usize);
         }
     }
 }

@@ -1,5 +1,5 @@
 // The registers that a netlist needs under a sharing rule. Time grows with the square of the wires.
-ghost use Rattle.std.specs.Prelude.{◌≡◌, ℕ, ◌<◌, ◌≤◌};
+ghost use Rattle.std.specs.Prelude.{◌≡◌, ℕ, ◌<◌, ◌≤◌, if◌then◌else◌};
 ghost use Rattle.netlist.specs.Tally.{added, tally_of, together, greatest, shared_sum, alone_sum};
 
 use crate::ask::Netlist;
@@ -13,24 +13,29 @@ struct Ruled<'a, N: Netlist, S: Sharing> {
 }
 
 impl<N: Netlist, S: Sharing> Ruled<'_, N, S> {
-    // Whether a wire leaves `driver` under `mark`.
-    fn is_together(&self, driver: usize, mark: usize, wire: usize) -> bool
-        ensures { result ≡ together (N.meaning self.now.net.now) (S.marking self.now.rule.now) driver mark wire }
+    // The count of a wire that leaves `driver` under `mark`, and 0 of another wire.
+    fn count_together(&self, driver: usize, mark: usize, wire: usize) -> u32
+        ensures { result ≡ (if together (N.meaning self.now.net.now) (S.marking self.now.rule.now) driver mark wire then (N.meaning self.now.net.now).count wire else 0) }
     {
-        let (from, to, _) = self.net.wire(wire);
-        from == driver && self.rule.mark(from, to, wire) == mark
+        let (from, to, count) = self.net.wire(wire);
+        if from == driver && self.rule.mark(from, to, wire) == mark {
+            count
+        } else {
+            0
+        }
     }
 
-    // The greatest count among the wires before `wire` that leave `driver` under `mark`.
+    // The greatest count among the wires before `wire` that leave `driver` under `mark`. It is the tally's inner loop: each
+    // wire is asked once, none is passed over by a branch, which would be guessed wrong where drivers alternate, and two
+    // counts are kept in turn, so that no wire waits for what came of the one before it.
     fn deepest_before(&self, driver: usize, mark: usize, wire: usize) -> u32
         ensures { result ≡ greatest (together (N.meaning self.now.net.now) (S.marking self.now.rule.now) driver mark) (N.meaning self.now.net.now).count wire }
     {
-        // A wire of the bundle is asked for twice: a `filter_map` that asks once was tried, and took a third longer.
-        (0..wire)
-            .filter(|k| self.is_together(driver, mark, *k))
-            .map(|k| self.net.wire(k).2)
-            .max()
-            .unwrap_or(0)
+        let (one, other) = (0..wire).fold(
+            (0, 0),
+            |(one, other), k| (other, self.count_together(driver, mark, k).max(one)),
+        );
+        one.max(other)
     }
 
     // The registers that a wire needs beyond those of the earlier wires in its bundle.
@@ -38,6 +43,9 @@ impl<N: Netlist, S: Sharing> Ruled<'_, N, S> {
         ensures { result ≡ added (N.meaning self.now.net.now) (S.marking self.now.rule.now) wire }
     {
         let (driver, driven, count) = self.net.wire(wire);
+        if count == 0 {
+            return 0;
+        }
         let mark = self.rule.mark(driver, driven, wire);
         count.saturating_sub(self.deepest_before(driver, mark, wire))
     }

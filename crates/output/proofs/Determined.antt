@@ -6,7 +6,7 @@ use Rattle.drawing.specs.File.{word, pins_in, wires_in, wire_in, wire_or_none, d
 use Rattle.wiring.specs.Wires.{no_wire}
 
 -- what stands at a place of the file
-data Place (wires j : ℕ) : Type 0 where
+pub data Place (wires j : ℕ) : Type 0 where
   at_size : j < 3 → Place wires j
   at_driver : (k : ℕ) → k < wires → j ≡ 3 + 2 * k → Place wires j
   at_driven : (k : ℕ) → k < wires → j ≡ 4 + 2 * k → Place wires j
@@ -18,7 +18,7 @@ end_place wires j low high = ⊎_elim
     (λ e. at_driven ((j - 3) / 2) (omega arith) (omega arith))
     (cases_eq ((j - 3) % 2) 0)
 
-place_of : (wires j : ℕ) → j < 3 + 3 * wires → Place wires j
+pub place_of : (wires j : ℕ) → j < 3 + 3 * wires → Place wires j
 place_of wires j l = ⊎_elim at_size
     (λ low. ⊎_elim (end_place wires j low) (λ past. at_count (j - (3 + 2 * wires)) (omega arith) (omega arith)) (cases_lt j (3 + 2 * wires)))
     (cases_lt j 3)

@@ -2,7 +2,7 @@
 // Moves and distances are arrays of five: no net has more gates, and the search's inner loop then allocates nothing.
 ghost use Rattle.std.specs.Prelude.{◌<◌};
 
-use crate::net::Net;
+use crate::net::{Net, lag_of};
 use retiming::way::Way;
 
 // The moves that are tried for each gate that is not fixed: so many, from the lowest upward. Together they are a box.
@@ -64,12 +64,12 @@ impl Moves {
             .fold(1u64, |all, _| all.saturating_mul(self.tried))
     }
 
-    // The move of each gate at one place of the box.
+    // The move of each gate at one place of the box. Over all five steps, since a loop of a fixed length is unrolled.
     fn place(self, net: &Net, number: u64) -> [i32; 5] {
         let mut moved = [0i32; 5];
         let mut rest = number;
-        for (step, fixed) in moved.iter_mut().zip(net.fixed.iter()) {
-            if !*fixed {
+        for (gate, step) in moved.iter_mut().enumerate() {
+            if net.is_free(gate) {
                 *step = self
                     .lowest
                     .saturating_add(i32::try_from(rest % self.tried).unwrap_or(0));
@@ -98,8 +98,8 @@ impl Found {
 // The net's lags after the moves.
 fn shifted(net: &Net, moved: &[i32; 5]) -> [i32; 5] {
     let mut lags = *moved;
-    for (lag, before) in lags.iter_mut().zip(net.lags.iter()) {
-        *lag = before.saturating_add(*lag);
+    for (gate, lag) in lags.iter_mut().enumerate() {
+        *lag = lag_of(net.lags.as_slice(), gate).saturating_add(*lag);
     }
     lags
 }

@@ -39,6 +39,11 @@ impl Net {
         Ok(Net { links, fixed, lags })
     }
 
+    // Whether a gate is one of the net's, and may move.
+    pub(crate) fn is_free(&self, gate: usize) -> bool {
+        !self.fixed.get(gate).copied().unwrap_or(true)
+    }
+
     // The count of a wire under the net's lags.
     pub(crate) fn count(&self, link: &Link) -> i32 {
         count(link, self.lags.as_slice())
@@ -67,7 +72,10 @@ impl Net {
 fn random_link(random: &mut Random, rule: Rule, gates: u16, lags: &[i32], k: u16) -> Link {
     let driver = random.below(gates);
     let driven = random.below(gates);
-    let lacking = lag_of(lags, driver).saturating_sub(lag_of(lags, driven));
+    let lacking = lag_of(lags, usize::from(driver)).saturating_sub(lag_of(
+        lags,
+        usize::from(driven),
+    ));
     let count = u32::from(random.below(4)).max(u32::try_from(lacking).unwrap_or(0));
     Link {
         driver,
@@ -93,14 +101,14 @@ fn bundle(random: &mut Random, rule: Rule, driver: u16, k: u16) -> u16 {
     }
 }
 
-fn lag_of(lags: &[i32], gate: u16) -> i32 {
-    lags.get(usize::from(gate)).copied().unwrap_or(0)
+pub(crate) fn lag_of(lags: &[i32], gate: usize) -> i32 {
+    lags.get(gate).copied().unwrap_or(0)
 }
 
 // The count of a wire under lags.
 fn count(link: &Link, lags: &[i32]) -> i32 {
     i32::try_from(link.count)
         .unwrap_or(i32::MAX)
-        .saturating_add(lag_of(lags, link.driven))
-        .saturating_sub(lag_of(lags, link.driver))
+        .saturating_add(lag_of(lags, usize::from(link.driven)))
+        .saturating_sub(lag_of(lags, usize::from(link.driver)))
 }

@@ -10,8 +10,8 @@ slack-by-requires c =
     let t = rows.table in
     record { «open» = slack_one c.args.way t.gates t.links.now t.fixed.now rows.depths rows.holders rows.flows c.args.marks.now t.tabled rows.holding c.requires.stuck }
 
-pub depths-self-requires : goal.depths-self-requires
-depths-self-requires c =
+pub read_depths-requires : goal.read_depths-requires
+read_depths-requires c =
     let rows = c.args.self.now in
     let t = rows.table in
     let given = c.requires.state in
@@ -23,7 +23,7 @@ returns-clause-state c first within state =
     let rows = c.args.self.now in
     let t = rows.table in
     let by = c.slack-by.ensures in
-    state_on c.args.way t.gates t.links.now t.fixed.now first c.args.lags.now rows.depths rows.holders rows.flows c.args.marks.now c.slack-by.result t.tabled state c.requires.stuck by.some by.slack c.move_lags.new.lags c.move_lags.ensures (omega (arith, state.standing.long, c.move_lags.auto.lags)) within c.depths-self.result c.depths-self.ensures
+    state_on c.args.way t.gates t.links.now t.fixed.now first c.args.lags.now rows.depths rows.holders rows.flows c.args.marks.now c.slack-by.result t.tabled state c.requires.stuck by.some by.slack c.move_lags.new.lags c.move_lags.ensures (omega (arith, state.standing.long, c.move_lags.auto.lags)) within c.read_depths.new.depths c.read_depths.ensures
 
 pub invariant_of-self : goal.invariant_of-self
 invariant_of-self c =
@@ -31,7 +31,7 @@ invariant_of-self c =
     let t = rows.table in
     let given = c.requires.state in
     let by = c.slack-by.ensures in
-    let state = state_on c.args.way t.gates t.links.now t.fixed.now given.0 c.args.lags.now rows.depths rows.holders rows.flows c.args.marks.now c.slack-by.result t.tabled given.1 c.requires.stuck by.some by.slack c.move_lags.new.lags c.move_lags.ensures (omega (arith, given.1.standing.long, c.move_lags.auto.lags)) given.2 c.depths-self.result c.depths-self.ensures in
+    let state = state_on c.args.way t.gates t.links.now t.fixed.now given.0 c.args.lags.now rows.depths rows.holders rows.flows c.args.marks.now c.slack-by.result t.tabled given.1 c.requires.stuck by.some by.slack c.move_lags.new.lags c.move_lags.ensures (omega (arith, given.1.standing.long, c.move_lags.auto.lags)) given.2 c.read_depths.new.depths c.read_depths.ensures in
     record { holding = state.holding }
 
 pub returns-clause-fewer : goal.returns-clause-fewer

@@ -1,9 +1,9 @@
 -- The rows belong to the table from first to last.
-use Rattle.std.proofs.Common.{◌≡◌, ℕ, sym, ◌∙◌, subst, subst₂}
+use Rattle.std.proofs.Common.{ℕ, sym, ◌∙◌, subst, subst₂}
 use Rattle.retiming.specs.Nearest.{Nearest}
 use Rattle.engine.specs.Round.{AllDone}
-use Rattle.engine.specs.Rows.{Depths, Holding}
-use Rattle.engine.specs.State.{State, needs_of}
+use Rattle.engine.specs.Rows.{Holding}
+use Rattle.engine.specs.State.{State}
 use Rattle.engine.specs.Table.{table, bundles, lags_of, fixed_of}
 use Rattle.engine.proofs.Advancing.{state_first, state_last}
 use Rattle.engine.proofs.Needed.{depth_le_needs}
@@ -28,10 +28,11 @@ returns c =
     let start = c.begin-rows.result in
     let end = c.settle.new.self in
     let same = c.settle.ensures.table ∙ c.begin-rows.ensures.table in
-    let before = subst (λ s. Depths s.gates s.links.now first start.depths → c.needed-before.result ≡ needs_of s.gates s.links.now first) c.begin-rows.ensures.table (c.needed-before.ensures first) c.begin-rows.ensures.depths in
+    let held = subst (λ s. Holding s.links.now start.depths start.holders start.flows) c.begin-rows.ensures.table start.holding in
+    let before = c.needed-before.ensures first start.flows c.begin-rows.ensures.depths held in
     let state = subst (λ s. State way s.gates s.links.now s.fixed.now first last end.depths end.holders end.flows) same c.settle.ensures.state in
     let done = subst (λ s. AllDone way s.gates s.links.now s.fixed.now end.holders end.flows) same c.settle.ensures.done in
-    let after = subst (λ s. Depths s.gates s.links.now last end.depths → c.needed.result ≡ needs_of s.gates s.links.now last) same (c.needed.ensures last) state.depths_are in
+    let after = c.needed.ensures last end.flows state.depths_are state.holding in
     record {
       nearest = subst₂ (λ (a b : ℕ). Nearest way (table t.gates t.links.now) (bundles t.links.now) (fixed_of t.fixed.now) (lags_of first) (lags_of last) a b) (sym before) (sym after)
           (state_last way t.gates t.links.now t.fixed.now first last end.depths end.holders end.flows t.tabled state done);

@@ -9,7 +9,7 @@ pub overflow_add-hop : goal.overflow_add-hop
 overflow_add-hop g c = omega (arith, queue_le c.requires.queued, hop_lt c.requires.queued c.args.v c.requires.node c.requires.marked, c.requires.nodes, c.args.self.now.few)
 
 pub loop-link-init : goal.loop-link-init
-loop-link-init g c = walking_first c.requires.queued (c.args.arcs.now.linked.begins c.args.v)
+loop-link-init g c = rw c.latest-link.ensures (walking_first c.requires.queued (c.args.arcs.now.linked.begins c.args.v))
 
 pub bounds-self-to : goal.bounds-self-to
 bounds-self-to g c =
@@ -25,13 +25,13 @@ enqueue-requires g c =
 pub loop-link-smaller : goal.loop-link-smaller
 loop-link-smaller g c =
     let old = rw c.in-Some.is at c.loop-link.invariant in
-    rw c.in-Some.is (omega (arith, bound_falls (g.G.Graph.shape c.args.arcs.now.graph.now) _ _ _ (c.args.arcs.now.linked.goes_on c.in-Some.arc old.leaves.0)))
+    rw (c.in-Some.is, c.before-link.ensures) (omega (arith, bound_falls (g.G.Graph.shape c.args.arcs.now.graph.now) _ _ _ (c.args.arcs.now.linked.goes_on c.in-Some.arc old.leaves.0)))
 
 pub loop-link-preserved : goal.loop-link-preserved
 loop-link-preserved g c =
     let old = rw c.in-Some.is at c.loop-link.invariant in
     let arc = c.arc-to.ensures.within old.leaves.0 in
-    let last = c.args.arcs.now.linked.goes_on c.in-Some.arc old.leaves.0 in
+    let last = rw (← c.before-link.ensures) at (c.args.arcs.now.linked.goes_on c.in-Some.arc old.leaves.0) in
     elim c.if-open.branch [
       | then-open+then-self-to-eq0 w ↦
           let done = w.enqueue.ensures in
