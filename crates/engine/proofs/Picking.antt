@@ -31,7 +31,7 @@ module _ (way : Way) (fixed : List Bool) (gains costs : List ℕ) where
   seen_idle true n seen idle = (seen.0, omega (arith, seen.1), seen.2)
   seen_idle false n seen idle = below_more (Idle way fixed gains costs) n seen idle
 
-  -- after the last gate the marks are told where one of them is 1
+  -- after the last gate the marks are right, and it is known whether one of them is 1
   pub picked : (marks : List ℕ) (gates : ℕ) (some : Bool) → MarkedSoFar marks gates → SeenSoFar some gates → MatchBool some (SomeSeeds way gates fixed gains costs marks) (NoSeed way gates fixed gains costs)
   picked marks gates true done seen = (record { each = done.each }, seen)
   picked marks gates false done seen = seen

@@ -34,8 +34,8 @@ fn share(holder: u16, wire: usize) -> u32
 }
 
 impl Rows<'_> {
-    // Adds the shares and flows of all wires to prices of 0. They are lent, since each round prices anew, and two rows that
-    // are answered would be copied.
+    // Adds the shares and flows of all wires to prices of 0. The prices are lent, since each round prices anew, and two rows
+    // that are answered would be copied.
     pub(crate) fn price(&self, prices: &mut Prices)
         requires gains { (g : ℕ) → g < self.now.table.gates → slice_index prices.old.gains g ≡ 0 }
         requires costs { (g : ℕ) → g < self.now.table.gates → slice_index prices.old.costs g ≡ 0 }

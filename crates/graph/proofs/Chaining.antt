@@ -1,16 +1,14 @@
 -- The loop that chains the arcs: no arc is chained at first, and one more with each turn.
 use Rattle.std.proofs.Common.{◌≡◌, ℕ, suc, ◌+◌, ◌<◌, List, Option, Some, None, length, get_or, set, replicate, sym, refl, ◌∙◌, subst, inl, inr, arith}
-use Rattle.std.proofs.lemmas.List.{get_or-replicate, get_or_past, length-replicate, length-set, get_or-set_same, get_or-set_other}
-use Rattle.std.proofs.lemmas.Bool.{cases_eq, cases_lt}
+use Rattle.std.proofs.lemmas.List.{length-replicate, length-set, get_or-set_same, get_or-set_other}
+use Rattle.std.proofs.lemmas.Bool.{cases_eq}
 use Rattle.graph.specs.Digraph.{Digraph}
 use Rattle.graph.specs.declared.chains.Chains.{Chains}
 use Rattle.graph.specs.Chains.{link_of, Last, Linked}
+use Rattle.graph.proofs.Zeros.{zeros}
 
 link_next : (i : ℕ) → link_of (i + 1) ≡ Some i
 link_next i = let e : i + 1 ≡ suc i = omega arith in rw e refl
-
-fresh : (n k : ℕ) → get_or {A = ℕ} (replicate n 0) k 0 ≡ 0
-fresh n k = elim (cases_lt k n) [ inl h ↦ get_or-replicate {A = ℕ} n k 0 0 h | inr h ↦ get_or_past (replicate n 0) k 0 (omega (arith, length-replicate {A = ℕ} n 0)) ]
 
 -- the loop's invariant: the arcs below m are chained, in arrays that are as long as ever
 pub record Chaining (g : Digraph) (m : ℕ) (chains : Chains) : Type 0 where
@@ -22,7 +20,7 @@ pub chaining_none : (g : Digraph) → Chaining g 0 (record { first = replicate 8
 chaining_none g = record {
   linked = record {
     few = omega arith;
-    begins = λ v. rw (fresh 8192 v) (λ a h e. omega arith);
+    begins = λ v. rw (zeros 8192 v) (λ a h e. omega arith);
     goes_on = λ i h. absurd (omega arith);
   };
   first_long = length-replicate {A = ℕ} 8192 0;

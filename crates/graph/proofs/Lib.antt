@@ -1,5 +1,6 @@
 -- The lemmas behind the search, from sums to the end of the search.
 pub mod Totals
+pub mod Zeros
 pub mod Chaining
 pub mod Queueing
 pub mod Starts

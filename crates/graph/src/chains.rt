@@ -40,7 +40,7 @@ impl Chains {
         self.first[node].checked_sub(1)
     }
 
-    // The arc before one in its chain, which leaves the same node.
+    // The latest arc before one that leaves the same node.
     pub(crate) fn before(&self, arc: usize) -> Option<u16>
         requires { arc < 32768 }
         ensures { result ≡ link_of (slice_index self.now.next arc) }

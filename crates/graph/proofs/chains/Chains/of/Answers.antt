@@ -11,4 +11,4 @@ loop-arc-preserved g c =
     let graph = g.G.Graph.shape c.args.graph.now in
     let within : c.loop-arc.arc < graph.arcs = omega arith in
     let arc = c.arc-from.ensures.within within in
-    (chaining_more graph c.loop-arc.arc c.arc-from.result.0 _ _ arc.leaves (omega arith) (omega arith) c.loop-arc.invariant)
+    chaining_more graph c.loop-arc.arc c.arc-from.result.0 _ _ arc.leaves (omega arith) (omega arith) c.loop-arc.invariant
